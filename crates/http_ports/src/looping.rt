@@ -39,6 +39,7 @@ fn serve_slot<P: Port, E: Protocol, D: Desk>(
     ensures many { length conns.new ≡ (P.terms port.new).capacity }
     ensures terms { P.terms port.new ≡ P.terms port.old }
     ensures stopped { P.stopped port.new ≡ P.stopped port.old }
+    ensures own { P.own port.new ≡ P.own port.old }
     ensures path { D.path desk.new ≡ D.path desk.old }
     ensures content_type { D.content_type desk.new ≡ D.content_type desk.old }
 {
@@ -71,6 +72,7 @@ fn close_slot<P: Port, E: Protocol>(
     ensures accepted { P.accepted port.new ≡ P.accepted port.old }
     ensures terms { P.terms port.new ≡ P.terms port.old }
     ensures stopped { P.stopped port.new ≡ P.stopped port.old }
+    ensures own { P.own port.new ≡ P.own port.old }
 {
     port.close(slot);
     match swap(conns, slot, None) {
@@ -106,6 +108,7 @@ fn serve_next<P: Port, E: Protocol, D: Desk>(
     ensures many { length conns.new ≡ (P.terms port.new).capacity }
     ensures terms { P.terms port.new ≡ P.terms port.old }
     ensures stopped { P.stopped port.new ≡ P.stopped port.old }
+    ensures own { P.own port.new ≡ P.own port.old }
     ensures path { D.path desk.new ≡ D.path desk.old }
     ensures content_type { D.content_type desk.new ≡ D.content_type desk.old }
 {
@@ -148,6 +151,7 @@ pub fn run<P: Port, E: Protocol, D: Desk, W: Wait>(
     ensures over { P.is_over port.new }
     ensures terms { P.terms port.new ≡ P.terms port.old }
     ensures stopped { P.stopped port.new ≡ P.stopped port.old }
+    ensures own { P.own port.new ≡ P.own port.old }
 {
     let mut lost = 0u64;
     for _ in rt.forever() {

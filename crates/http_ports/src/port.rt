@@ -13,6 +13,9 @@ use std::net::IpAddr;
 /// No call waits for a peer but `wait`. A read that gives nothing, or a write that takes nothing, has the connection
 /// reported once its peer has gone on.
 pub trait Port {
+    /// What a port has of its own beside its terms and its clock, such as a log.
+    type Own;
+
     // what passed at each slot
     ghost slots: { Self → ℕ → Slot };
 
@@ -21,6 +24,9 @@ pub trait Port {
 
     // the time at which its clock has stopped, if it has, which stays
     ghost stopped: { Self → Option ℕ };
+
+    // what it has of its own, which stays
+    ghost own: { Self → Self.Own };
 
     // how many connections were accepted
     ghost accepted: { Self → ℕ };
@@ -48,7 +54,8 @@ pub trait Port {
         ensures over { IsDone result → is_over self.new }
         ensures accepted { accepted self.new ≡ accepted self.old + accepted_by result }
         ensures terms { terms self.new ≡ terms self.old }
-        ensures stopped { stopped self.new ≡ stopped self.old };
+        ensures stopped { stopped self.new ≡ stopped self.old }
+        ensures own { own self.new ≡ own self.old };
 
     // rule: Timestamp of a connection
     // rule: Clock of a port
@@ -61,7 +68,8 @@ pub trait Port {
         ensures noted { Changes slot (timing result (option_map (λ bytes. bytes.now) waiting.entry)) (slots self.old) (slots self.new) }
         ensures accepted { accepted self.new ≡ accepted self.old }
         ensures terms { terms self.new ≡ terms self.old }
-        ensures stopped { stopped self.new ≡ stopped self.old };
+        ensures stopped { stopped self.new ≡ stopped self.old }
+        ensures own { own self.new ≡ own self.old };
 
     // rule: Reads of a port
     /// Reads what has come on the connection of a slot, into one cell or more.
@@ -71,7 +79,8 @@ pub trait Port {
         ensures reads { Reads slot result into.new (slots self.old) (slots self.new) }
         ensures accepted { accepted self.new ≡ accepted self.old }
         ensures terms { terms self.new ≡ terms self.old }
-        ensures stopped { stopped self.new ≡ stopped self.old };
+        ensures stopped { stopped self.new ≡ stopped self.old }
+        ensures own { own self.new ≡ own self.old };
 
     // rule: Writes of a port
     /// Writes a first part of the bytes, of which there is one or more, on the connection of a slot.
@@ -81,7 +90,8 @@ pub trait Port {
         ensures writes { Writes slot result bytes.now (slots self.old) (slots self.new) }
         ensures accepted { accepted self.new ≡ accepted self.old }
         ensures terms { terms self.new ≡ terms self.old }
-        ensures stopped { stopped self.new ≡ stopped self.old };
+        ensures stopped { stopped self.new ≡ stopped self.old }
+        ensures own { own self.new ≡ own self.old };
 
     /// Has the connection of a slot, on which bytes have just passed, reported again.
     fn again(&mut self, slot: usize)
@@ -89,7 +99,8 @@ pub trait Port {
         ensures yields { Changes slot (marked Yields) (slots self.old) (slots self.new) }
         ensures accepted { accepted self.new ≡ accepted self.old }
         ensures terms { terms self.new ≡ terms self.old }
-        ensures stopped { stopped self.new ≡ stopped self.old };
+        ensures stopped { stopped self.new ≡ stopped self.old }
+        ensures own { own self.new ≡ own self.old };
 
     /// Ends the connection of a slot, which is free then.
     fn close(&mut self, slot: usize)
@@ -97,5 +108,6 @@ pub trait Port {
         ensures closes { Closes slot (slots self.old) (slots self.new) }
         ensures accepted { accepted self.new ≡ accepted self.old }
         ensures terms { terms self.new ≡ terms self.old }
-        ensures stopped { stopped self.new ≡ stopped self.old };
+        ensures stopped { stopped self.new ≡ stopped self.old }
+        ensures own { own self.new ≡ own self.old };
 }

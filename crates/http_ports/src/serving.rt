@@ -42,6 +42,7 @@ fn push<P: Port, E: Protocol, D: Desk>(
     ensures accepted { P.accepted port.new ≡ P.accepted port.old }
     ensures terms { P.terms port.new ≡ P.terms port.old }
     ensures stopped { P.stopped port.new ≡ P.stopped port.old }
+    ensures own { P.own port.new ≡ P.own port.old }
 {
     match port.write(slot, protocol.pending(conn)) {
         Sent::Bytes(count) => {
@@ -74,6 +75,7 @@ fn pull<P: Port, E: Protocol, D: Desk>(
     ensures accepted { P.accepted port.new ≡ P.accepted port.old }
     ensures terms { P.terms port.new ≡ P.terms port.old }
     ensures stopped { P.stopped port.new ≡ P.stopped port.old }
+    ensures own { P.own port.new ≡ P.own port.old }
 {
     match port.read(slot, into) {
         Received::Bytes(count) => {
@@ -108,6 +110,7 @@ fn advance<P: Port, E: Protocol, D: Desk>(
     ensures accepted { P.accepted port.new ≡ P.accepted port.old }
     ensures terms { P.terms port.new ≡ P.terms port.old }
     ensures stopped { P.stopped port.new ≡ P.stopped port.old }
+    ensures own { P.own port.new ≡ P.own port.old }
     ensures path { D.path desk.new ≡ D.path desk.old }
     ensures content_type { D.content_type desk.new ≡ D.content_type desk.old }
 {
@@ -142,6 +145,7 @@ fn advance_far<P: Port, E: Protocol, D: Desk>(
     ensures accepted { P.accepted port.new ≡ P.accepted port.old }
     ensures terms { P.terms port.new ≡ P.terms port.old }
     ensures stopped { P.stopped port.new ≡ P.stopped port.old }
+    ensures own { P.own port.new ≡ P.own port.old }
     ensures path { D.path desk.new ≡ D.path desk.old }
     ensures content_type { D.content_type desk.new ≡ D.content_type desk.old }
 {
@@ -174,6 +178,7 @@ pub(crate) fn serve_out<P: Port, E: Protocol, D: Desk>(
     ensures accepted { P.accepted port.new ≡ P.accepted port.old }
     ensures terms { P.terms port.new ≡ P.terms port.old }
     ensures stopped { P.stopped port.new ≡ P.stopped port.old }
+    ensures own { P.own port.new ≡ P.own port.old }
     ensures path { D.path desk.new ≡ D.path desk.old }
     ensures content_type { D.content_type desk.new ≡ D.content_type desk.old }
 {

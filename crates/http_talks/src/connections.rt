@@ -86,6 +86,7 @@ pub fn serve_port<P: Port, Z: Packages, V: WatchEach, D: Desk, R: Wait + AllocGl
     ensures clock { (k : ℕ) → FitEnded (P.stopped port.old) (P.slots port.new k).ended }
     ensures over { P.is_over port.new }
     ensures terms { P.terms port.new ≡ P.terms port.old }
+    ensures own { P.own port.new ≡ P.own port.old }
 {
     let Connections { room, into, conns } = connections;
     let (mut room, mut into, mut conns) = (room, into, conns);

@@ -87,12 +87,17 @@ impl<R: Wait + Clock> Port for MioPort<'_, R> {
     ghost use Rattle.std.specs.Prelude.{◌≡◌, ◌⊎◌, None, true};
     ghost use Rattle.port_books.specs.Books.{accepted_in, slots_after};
 
+    type Own = ();
+
     ghost slots = { λ port. slots_after port.book.moves };
 
     ghost terms = { λ port. port.terms };
 
     // it never stops
     ghost stopped = { λ _. None };
+
+    // it has nothing of its own
+    ghost own = { λ _. tt };
 
     ghost accepted = { λ port. accepted_in port.book.moves };
 

@@ -191,12 +191,17 @@ impl Port for Script {
     ghost use Rattle.std.specs.Prelude.{◌≡◌};
     ghost use Rattle.port_scripts.specs.Seats.{AreDone, accepted_in, slots_of, stopped_at};
 
+    type Own = ();
+
     ghost slots = { λ port. slots_of port.seats.items };
 
     ghost terms = { λ port. port.terms };
 
     // its first timestamp, if no time passes
     ghost stopped = { λ port. stopped_at port.seconds port.step };
+
+    // it has nothing of its own
+    ghost own = { λ _. tt };
 
     ghost accepted = { λ port. accepted_in port.seats.items };
 

@@ -96,5 +96,6 @@ pub trait System<P: Port> {
             (D.content_type desk.old) D.steps desk.old desk.new
             (record { terms = Q.terms port.new; slots = Q.slots port.new; accepted = Q.accepted port.new; lost = result }) }
         ensures over { Q.is_over port.new }
-        ensures terms { Q.terms port.new ≡ Q.terms port.old };
+        ensures terms { Q.terms port.new ≡ Q.terms port.old }
+        ensures own { Q.own port.new ≡ Q.own port.old };
 }

@@ -19,11 +19,12 @@ loop-init g c = (
   refl,
   refl,
   refl,
+  refl,
 )
 
 pub loop-preserved-in-Some-true : goal.loop-preserved-in-Some-true
 loop-preserved-in-Some-true g c =
-    let (lost, works, is, many, terms, stopped, path, kind) = c.loop.invariant in (
+    let (lost, works, is, many, terms, stopped, own, path, kind) = c.loop.invariant in (
       lost + one_if c.in-Some-true.field-0,
       at_same
           (λ (s : Option ℕ) (p t : List ℕ). Works (speech_at s g.E.Protocol.pending g.E.Protocol.phase g.E.Protocol.is_lost (g.E.Protocol.so_far c.args.protocol.now) p t)
@@ -37,13 +38,14 @@ loop-preserved-in-Some-true g c =
       c.in-Some-true.ensures.many,
       c.in-Some-true.ensures.terms ∙ terms,
       c.in-Some-true.ensures.stopped ∙ stopped,
+      c.in-Some-true.ensures.own ∙ own,
       c.in-Some-true.ensures.path ∙ path,
       c.in-Some-true.ensures.content_type ∙ kind,
     )
 
 pub loop-preserved : goal.loop-preserved
 loop-preserved g c =
-    let (lost, works, is, many, terms, stopped, path, kind) = c.loop.invariant in (
+    let (lost, works, is, many, terms, stopped, own, path, kind) = c.loop.invariant in (
       lost + one_if c.in-Some-false.field-0,
       at_same
           (λ (s : Option ℕ) (p t : List ℕ). Works (speech_at s g.E.Protocol.pending g.E.Protocol.phase g.E.Protocol.is_lost (g.E.Protocol.so_far c.args.protocol.now) p t)
@@ -57,13 +59,14 @@ loop-preserved g c =
       c.in-Some-false.ensures.many,
       c.in-Some-false.ensures.terms ∙ terms,
       c.in-Some-false.ensures.stopped ∙ stopped,
+      c.in-Some-false.ensures.own ∙ own,
       c.in-Some-false.ensures.path ∙ path,
       c.in-Some-false.ensures.content_type ∙ kind,
     )
 
 pub returns-in-None-serve_next-clause-served : goal.returns-in-None-serve_next-clause-served
 returns-in-None-serve_next-clause-served g c =
-    let (lost, works, is, many, terms, stopped, path, kind) = c.loop.invariant in (
+    let (lost, works, is, many, terms, stopped, own, path, kind) = c.loop.invariant in (
       lost,
       is,
       at_same

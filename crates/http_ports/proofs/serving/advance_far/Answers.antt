@@ -16,11 +16,12 @@ loop-init g c = (
   refl,
   refl,
   refl,
+  refl,
 )
 
 pub loop-preserved : goal.loop-preserved
 loop-preserved g c =
-    let (serves, live, elsewhere, accepted, terms, stopped, path, kind) = c.loop.invariant in (
+    let (serves, live, elsewhere, accepted, terms, stopped, own, path, kind) = c.loop.invariant in (
       and_then (speech_at (g.P.Port.stopped c.args.port.now) g.E.Protocol.pending g.E.Protocol.phase g.E.Protocol.is_lost (g.E.Protocol.so_far c.args.protocol.now) (g.D.Desk.path c.args.desk.now) (g.D.Desk.content_type c.args.desk.now)) g.D.Desk.steps
           any_left any_left (g.P.Port.slots c.args.port.now c.args.slot) (g.P.Port.slots c.loop.port c.args.slot)
           (g.P.Port.slots c.advance.new.port c.args.slot) c.args.conn.now c.loop.conn c.advance.new.conn c.args.desk.now c.loop.desk
@@ -34,13 +35,14 @@ loop-preserved g c =
       c.in-Passed.ensures.accepted ∙ accepted,
       c.in-Passed.ensures.terms ∙ terms,
       c.in-Passed.ensures.stopped ∙ stopped,
+      c.in-Passed.ensures.own ∙ own,
       c.in-Passed.ensures.path ∙ path,
       c.in-Passed.ensures.content_type ∙ kind,
     )
 
 pub returns-in-Waits-clause-serves : goal.returns-in-Waits-clause-serves
 returns-in-Waits-clause-serves g c =
-    let (serves, live, elsewhere, accepted, terms, stopped, path, kind) = c.loop.invariant in
+    let (serves, live, elsewhere, accepted, terms, stopped, own, path, kind) = c.loop.invariant in
     and_then (speech_at (g.P.Port.stopped c.args.port.now) g.E.Protocol.pending g.E.Protocol.phase g.E.Protocol.is_lost (g.E.Protocol.so_far c.args.protocol.now) (g.D.Desk.path c.args.desk.now) (g.D.Desk.content_type c.args.desk.now)) g.D.Desk.steps
     any_left IsResting (g.P.Port.slots c.args.port.now c.args.slot) (g.P.Port.slots c.loop.port c.args.slot)
     (g.P.Port.slots c.advance.new.port c.args.slot) c.args.conn.now c.loop.conn c.advance.new.conn c.args.desk.now c.loop.desk
@@ -51,7 +53,7 @@ returns-in-Waits-clause-serves g c =
 
 pub returns-in-Over-clause-serves : goal.returns-in-Over-clause-serves
 returns-in-Over-clause-serves g c =
-    let (serves, live, elsewhere, accepted, terms, stopped, path, kind) = c.loop.invariant in
+    let (serves, live, elsewhere, accepted, terms, stopped, own, path, kind) = c.loop.invariant in
     and_then (speech_at (g.P.Port.stopped c.args.port.now) g.E.Protocol.pending g.E.Protocol.phase g.E.Protocol.is_lost (g.E.Protocol.so_far c.args.protocol.now) (g.D.Desk.path c.args.desk.now) (g.D.Desk.content_type c.args.desk.now)) g.D.Desk.steps
     any_left IsEnding (g.P.Port.slots c.args.port.now c.args.slot) (g.P.Port.slots c.loop.port c.args.slot)
     (g.P.Port.slots c.advance.new.port c.args.slot) c.args.conn.now c.loop.conn c.advance.new.conn c.args.desk.now c.loop.desk
@@ -62,7 +64,7 @@ returns-in-Over-clause-serves g c =
 
 pub returns-clause-serves : goal.returns-clause-serves
 returns-clause-serves g c =
-    let (serves, live, elsewhere, accepted, terms, stopped, path, kind) = c.loop.invariant in
+    let (serves, live, elsewhere, accepted, terms, stopped, own, path, kind) = c.loop.invariant in
     and_then (speech_at (g.P.Port.stopped c.args.port.now) g.E.Protocol.pending g.E.Protocol.phase g.E.Protocol.is_lost (g.E.Protocol.so_far c.args.protocol.now) (g.D.Desk.path c.args.desk.now) (g.D.Desk.content_type c.args.desk.now)) g.D.Desk.steps
     any_left (IsStep c.advance-2.result) (g.P.Port.slots c.args.port.now c.args.slot) (g.P.Port.slots c.loop.port c.args.slot)
     (g.P.Port.slots c.advance-2.new.port c.args.slot) c.args.conn.now c.loop.conn c.advance-2.new.conn c.args.desk.now c.loop.desk

@@ -17,5 +17,6 @@ invariant-loop g l =
     × (g.P.Port.accepted l.port ≡ g.P.Port.accepted l.initial.port)
     × (g.P.Port.terms l.port ≡ g.P.Port.terms l.initial.port)
     × (g.P.Port.stopped l.port ≡ g.P.Port.stopped l.initial.port)
+    × (g.P.Port.own l.port ≡ g.P.Port.own l.initial.port)
     × (g.D.Desk.path l.desk ≡ g.D.Desk.path l.initial.desk)
     × (g.D.Desk.content_type l.desk ≡ g.D.Desk.content_type l.initial.desk)
