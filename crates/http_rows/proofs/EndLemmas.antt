@@ -1,10 +1,10 @@
--- The ends of a ring whose sender has ended.
-use Rattle.std.proofs.Common.{◌≡◌, ◌∙◌, ◌++◌, List, [], ◌∷◌, length, get_or, length-append, sym, subst, ap, arith}
+-- The ends of rings whose senders have ended.
+use Rattle.std.proofs.Common.{◌≡◌, ◌∙◌, List, [], ◌∷◌, sym, subst}
 use Rattle.std.specs.List.{AllZip}
-use Rattle.rtrb.specs.Ring.{SameConsumer, SameProducer}
-use Rattle.log_queues.specs.Queues.{AreEnds, Ended, ReceivingEnd, Sending, SendingEnd}
+use Rattle.rtrb.specs.Ring.{SameProducer}
+use Rattle.log_queues.specs.Queues.{AreEnds, AreEndsOf, Ended, HaveEnded, ReceivingEnd, Sending, SendingEnd}
 
--- an end that is twice the same is the same
+-- an end that is twice of one ring is of it
 SameProducer-after :
     (first second third : SendingEnd) → SameProducer first second → SameProducer second third → SameProducer first third
 SameProducer-after first second third ((a, b, c, d), e) ((f, g, h, i), j) = ((f ∙ a, g ∙ b, h ∙ c, i ∙ d), j ∙ e)
@@ -14,19 +14,27 @@ AreEnds-after : (first second : SendingEnd) (end : ReceivingEnd) → AreEnds fir
 AreEnds-after first second end ((a, b, c, d), e) ((f, g, h, i), j) =
     ((a ∙ sym f, b ∙ sym g, c ∙ sym h, d ∙ sym i), j ∙ e)
 
--- the one sender of a log has ended
-pub one-ends :
-    (senders rest : List Sending) (ends : List ReceivingEnd) (sender later : Sending) (last : Ended) → length senders ≡ 1 →
-    senders ≡ rest ++ sender ∷ [] → AllZip (λ (one : Sending) (other : ReceivingEnd). AreEnds one.end other) senders ends →
-    SameProducer sender.end later.end → SameProducer later.end last.end →
-    AllZip (λ (one : Ended) (other : ReceivingEnd). AreEnds one.end other) (last ∷ []) ends
-one-ends [] rest ends sender later last many is all one two = absurd (omega (arith, many))
-one-ends (first ∷ next ∷ senders) rest ends sender later last many is all one two = absurd (omega (arith, many))
-one-ends (first ∷ []) (other ∷ rest) ends sender later last many is all one two =
-    absurd (omega (arith, ap (λ (xs : List Sending). length xs) is, length-append rest (sender ∷ [])))
-one-ends (first ∷ []) [] [] sender later last many is all one two = absurd all
-one-ends (first ∷ []) [] (end ∷ next ∷ ends) sender later last many is all one two = absurd all.1
-one-ends (first ∷ []) [] (end ∷ []) sender later last many is all one two =
-    let same : first ≡ sender = ap (λ (xs : List Sending). get_or xs 0 sender) is in
-    let pair : AreEnds sender.end end = subst (λ (s : Sending). AreEnds s.end end) same all.0 in
-    (AreEnds-after sender.end last.end end pair (SameProducer-after sender.end later.end last.end one two), tt)
+-- the first one of two senders has ended
+both-ends :
+    (ends : List ReceivingEnd) (first second : Sending) (last : Ended) →
+    AllZip (λ (one : Sending) (other : ReceivingEnd). AreEnds one.end other) (first ∷ second ∷ []) ends →
+    SameProducer first.end last.end → AreEndsOf (last ∷ []) ends
+both-ends [] first second last all same = absurd all
+both-ends (end ∷ ends) first second last (a, all) same = (AreEnds-after first.end last.end end a same, tt)
+
+pub first-ends :
+    (senders : List Sending) (ends : List ReceivingEnd) (first later second : Sending) (last : Ended) →
+    senders ≡ first ∷ second ∷ [] → AllZip (λ (one : Sending) (other : ReceivingEnd). AreEnds one.end other) senders ends →
+    SameProducer first.end later.end → SameProducer later.end last.end → AreEndsOf (last ∷ []) ends
+first-ends senders ends first later second last two all one other =
+    both-ends ends first second last
+    (subst (λ those. AllZip (λ (one : Sending) (other : ReceivingEnd). AreEnds one.end other) those ends) two all)
+    (SameProducer-after first.end later.end last.end one other)
+
+-- both of two senders have ended
+pub both-ended :
+    (senders : List Sending) (ended : List Ended) (first second : Sending) (one other : Ended) →
+    senders ≡ first ∷ second ∷ [] → ended ≡ one ∷ other ∷ [] → SameProducer first.end one.end →
+    SameProducer second.end other.end → HaveEnded senders ended
+both-ended senders ended first second one other two are same others =
+    subst (λ those. HaveEnded senders those) (sym are) (first ∷ second ∷ [], [], two, (same, (others, tt)))

@@ -1,12 +1,18 @@
 // Lines of a log that are sent to its writer.
 
+ghost use Rattle.std.specs.Prelude.{◌≡◌, ◌∷◌, [], IfSome, map};
+ghost use Rattle.rtrb.specs.Ring.{SameProducer};
+ghost use Rattle.log_queues.specs.Queues.{HaveEnded, IsWhole};
+
 use crate::writers::Paper;
-use log_queues::{LineSender, LogWriter, Page, Signal, open_log};
+use log_queues::{EndedSender, LineSender, Page, Writing, open_log};
 use std::alloc::Global;
 use std::io::Write;
-use std::sync::{Mutex, Wait};
-use std::thread;
-use std::thread::{Scope, Threads};
+use std::snapshot::Snapshot;
+use std::sync::Wait;
+use std::thread::Threads;
+use std::{str, thread};
+use streams::WriteWhole;
 
 // A sheet that takes all, or fails so often after so many bytes.
 fn paper(alloc: Global, room: usize, fails: usize) -> Paper {
@@ -126,74 +132,47 @@ fn a_sender_is_a_writer_that_never_fails(rt: HostRuntime) {
     assert!(rt; takes_lines(rt.alloc(), &mut all) == Some(true));
 }
 
-// Sends ten lines by each sender, and ends.
-fn send_ten(senders: &mut [LineSender], signal: &Signal) {
-    for sender in senders {
-        for _ in 0..10 {
-            sender.send(b"line\n");
-        }
-    }
-    signal.end();
-}
-
-// Writes what the senders of a log send to a page, which no one else has until then.
-fn write_page<R: Wait>(rt: &R, writer: LogWriter, page: &Mutex<Page<'_, Paper>>) {
-    let mut writer = writer;
-    let mut page = page.lock(rt);
-    writer.write_all(rt, &mut page);
-}
-
-// Does a job in a thread of its own; whether there can be one.
-fn start<'s, E, F: FnOnce() + Send + Drop + 's>(scope: &Scope<'s, E>, job: F) -> bool
-    requires { F.pre job }
-{
-    match scope.spawn(job) {
-        Ok(_) => true,
-        Err(_) => false,
-    }
-}
-
-// Sends them while a thread writes, and waits for that.
-fn send_beside<R: Threads + Wait + Sync>(
-    rt: &R,
-    alloc: Global,
-    page: &Mutex<Page<'_, Paper>>,
-) -> bool {
-    let Ok(log) = open_log(alloc, 3, 64) else {
-        return false;
-    };
-    let mut senders = log.senders;
-    let (writer, signal) = (log.writer, log.signal);
-    thread::scope(thread::scope_env(), rt, |scope| -> bool {
-        let is_started = start(scope, move || write_page(rt, writer, page));
-        send_ten(&mut senders, &signal);
-        is_started
-    })
-}
-
-// Whether three senders' lines are all written in a thread of its own.
-fn is_written<R: Threads + Wait + Sync>(rt: &R, alloc: Global) -> bool {
-    let mut all = paper(alloc, 0, 0);
-    let is_started = send_beside(rt, alloc, &Mutex::new(Page::new(&mut all)));
-    is_started && all.bytes.len() == 150
+// Sends a line by each of two senders, and says that there are no more; whether the writer writes both, and ends.
+fn writes_all<R: Wait>(rt: &R, alloc: Global, paper: &mut Paper) -> Option<bool> {
+    let mut log = open_log(alloc, 2, 64).ok()?;
+    send(&mut log.senders, "0 one\n1 two\n")?;
+    log.signal.end();
+    log.writer.write_all(rt, &mut Page::new(paper));
+    Some(paper.bytes.as_slice() == b"one\ntwo\n".as_slice())
 }
 
 // rule: Written log
 #[test]
 fn a_writer_ends_once_all_is_written(rt: HostRuntime) {
-    assert!(rt; is_written(&rt, rt.alloc()));
+    let mut all = paper(rt.alloc(), 0, 0);
+    assert!(rt; writes_all(&rt, rt.alloc(), &mut all) == Some(true));
 }
 
-// Sends a line and ends, and has the rest written; whether it was written.
+// The two senders of a log.
+fn two_of(senders: Vec<LineSender>) -> Option<(LineSender, LineSender)>
+    ensures { IfSome result (λ two. senders.items ≡ two.0 ∷ two.1 ∷ []) }
+{
+    let mut senders = senders;
+    let second = senders.pop()?;
+    let first = senders.pop()?;
+    if senders.is_empty() {
+        Some((first, second))
+    } else {
+        None
+    }
+}
+
+// Sends a line by each of two senders, and has the rest written once the first has ended; whether both were written.
 fn writes_rest(alloc: Global, paper: &mut Paper) -> Option<bool> {
-    let log = open_log(alloc, 1, 64).ok()?;
-    let (mut senders, mut writer) = (log.senders, log.writer);
-    let mut sender = senders.pop()?;
-    sender.send(b"line\n");
+    let log = open_log(alloc, 2, 64).ok()?;
+    let (mut first, mut second) = two_of(log.senders)?;
+    first.send(b"one\n");
+    second.send(b"two\n");
     let mut ended = Vec::new(alloc);
-    ended.push(sender.finish()).ok()?;
+    ended.push(first.finish()).ok()?;
+    let mut writer = log.writer;
     writer.write_rest(ended, &mut Page::new(paper));
-    Some(paper.bytes.as_slice() == b"line\n".as_slice())
+    Some(paper.bytes.as_slice() == b"one\ntwo\n".as_slice())
 }
 
 // rule: Written log
@@ -201,4 +180,115 @@ fn writes_rest(alloc: Global, paper: &mut Paper) -> Option<bool> {
 fn what_is_left_of_ended_senders_is_written(rt: HostRuntime) {
     let mut all = paper(rt.alloc(), 0, 0);
     assert!(rt; writes_rest(rt.alloc(), &mut all) == Some(true));
+}
+
+// Sends the lines of a row, and ends the sender.
+fn send_row(sender: LineSender, row: &str) -> EndedSender
+    ensures { SameProducer sender.end result.end }
+{
+    let mut sender = sender;
+    for line in row.split_inclusive('\n') {
+        sender.send(line.as_bytes());
+    }
+    sender.finish()
+}
+
+// Sends the lines of two rows, each by a sender of its own, and gives what has ended.
+fn send_rows(
+    alloc: Global,
+    senders: Vec<LineSender>,
+    rows: (&str, &str),
+) -> Option<Vec<EndedSender>>
+    ensures { IfSome result (λ ended. HaveEnded senders.items ended.items) }
+{
+    let (first, second) = two_of(senders)?;
+    let mut ended = Vec::new(alloc);
+    ended.push(send_row(first, rows.0)).ok()?;
+    ended.push(send_row(second, rows.1)).ok()?;
+    Some(ended)
+}
+
+// Sends the lines of two rows while a thread writes them, and gives what has ended, once all is written.
+fn write_beside<R: Threads + Wait + Sync, W: WriteWhole + Send>(
+    rt: &R,
+    alloc: Global,
+    rows: (&str, &str),
+    out: &mut W,
+) -> Option<Snapshot<Vec<EndedSender>>>
+    ensures whole { IfSome result (λ ended. IsWhole (map (λ sender. sender.sent) ended.value.items) (W.output out.old)
+        (W.output out.new)) }
+{
+    let (senders, writing) = Writing::open(alloc, 2, 64, Page::new(out)).ok()?;
+    let (page, ended) = thread::scope(
+        thread::scope_env(),
+        rt,
+        |scope| -> Option<(Page<'_, W>, Snapshot<Vec<EndedSender>>)>
+            requires { writing.opened.value ≡ senders }
+            ensures whole { IfSome result (λ made. IsWhole (map (λ sender. sender.sent) made.1.value.items)
+                (W.output writing.entry.page.out.now) (W.output made.0.out.now)) }
+            ensures page { IfSome result (λ made. made.0.out.ghost_name ≡ writing.entry.page.out.ghost_name) }
+        {
+            let thread = writing.start(scope, rt)?;
+            let ended = send_rows(alloc, senders, rows)?;
+            let sent = Snapshot::of(&ended);
+            Some((thread.finish(rt, ended), sent))
+        },
+    )?;
+    let out = page.into_inner();
+    // No effect at run time. The proof reads what was written from this use of `out`.
+    let _ = &*out;
+    Some(ended)
+}
+
+// Whether each line is the next one of one of two rows, and all lines of both are there.
+fn is_merged(lines: &str, rows: (&str, &str)) -> bool {
+    let (mut first, mut second) = rows;
+    for line in lines.split_inclusive('\n') {
+        if let Some(rest) = first.strip_prefix(line) {
+            first = rest;
+        } else if let Some(rest) = second.strip_prefix(line) {
+            second = rest;
+        } else {
+            return false;
+        }
+    }
+    first.is_empty() && second.is_empty()
+}
+
+// Whether the rows that two senders are given are written in a thread of its own as the wanted ones.
+fn is_written<R: Threads + Wait + Sync>(
+    rt: &R,
+    alloc: Global,
+    rows: (&str, &str),
+    wanted: (&str, &str),
+) -> Option<bool> {
+    let mut all = paper(alloc, 0, 0);
+    write_beside(rt, alloc, rows, &mut all)?;
+    Some(is_merged(str::from_utf8(&all.bytes).ok()?, wanted))
+}
+
+// What the first of two senders sends.
+const FIRST: &str = "a one\na two\na three\n";
+
+// What the second one sends. Two of its lines are too long for a room of 64 bytes.
+const SECOND: &str = "\
+b one
+b 0123456789012345678901234567890123456789012345678901234567890123456789
+b two
+b 0123456789012345678901234567890123456789012345678901234567890123456789
+";
+
+// What is written of those.
+const WRITTEN: &str = "\
+b one
+omaha: lines of the log that were lost: 1
+b two
+omaha: lines of the log that were lost: 1
+";
+
+// rule: Whole log
+#[test]
+fn a_log_in_a_thread_of_its_own_is_whole(rt: HostRuntime) {
+    let rows = (FIRST, SECOND);
+    assert!(rt; is_written(&rt, rt.alloc(), rows, (FIRST, WRITTEN)) == Some(true));
 }

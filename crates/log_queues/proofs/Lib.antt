@@ -1,4 +1,5 @@
 mod PageLemmas
 mod RingLemmas
 mod RoundLemmas
+mod WholeLemmas
 mod WrittenLemmas

@@ -4,7 +4,7 @@ use Rattle.std.proofs.lemmas.List.Elements.{All-cons, All-head, All-nil, All-tai
 use Rattle.std.proofs.Math.Seq.{take-append_seam}
 use Rattle.std.specs.List.{AllZip}
 use Rattle.rtrb.specs.Ring.{SameConsumer, SameProducer, consumer_capacity, received}
-use Rattle.log_queues.specs.Queues.{AreEnds, Ended, ReceivingEnd, Sending, SendingEnd}
+use Rattle.log_queues.specs.Queues.{AreEnds, AreEndsOf, Ended, HasReceived, HaveEnded, ReceivingEnd, Sending, SendingEnd}
 
 -- each end is of the ring that it was of
 pub SameConsumer-refl : (end : ReceivingEnd) → SameConsumer end end
@@ -53,21 +53,16 @@ roomy-same (first ∷ firsts) (end ∷ ends) room new-room (a, one) size roomy =
     (roomy-same firsts ends room new-room one size
     (All-tail (λ (those : ReceivingEnd). consumer_capacity those ≤ room) first firsts roomy))
 
--- there are as many senders as ends, and those at one place are of one ring
-pub ends-length :
-    (senders : List Ended) (ends : List ReceivingEnd) →
-    AllZip (λ (one : Ended) (other : ReceivingEnd). AreEnds one.end other) senders ends → length senders ≡ length ends
-ends-length [] [] all = refl
-ends-length [] (other ∷ ends) all = absurd all
-ends-length (one ∷ senders) [] all = absurd all
-ends-length (one ∷ senders) (other ∷ ends) (a, all) = ap suc (ends-length senders ends all)
+-- there are no more senders than ends, and those at one place are of one ring
+pub ends-within : (senders : List Ended) (ends : List ReceivingEnd) → AreEndsOf senders ends → length senders ≤ length ends
+ends-within [] ends all = omega arith
+ends-within (one ∷ senders) [] all = absurd all
+ends-within (one ∷ senders) (other ∷ ends) (a, all) = let rest = ends-within senders ends all in omega arith
 
 pub ends-at :
-    (n : ℕ) (senders : List Ended) (ends : List ReceivingEnd) (d : Ended) (e : ReceivingEnd) →
-    AllZip (λ (one : Ended) (other : ReceivingEnd). AreEnds one.end other) senders ends → n < length ends →
-    AreEnds (get_or senders n d).end (get_or ends n e)
-ends-at n [] [] d e all within = absurd (omega (arith, within))
-ends-at n [] (other ∷ ends) d e all within = absurd all
+    (n : ℕ) (senders : List Ended) (ends : List ReceivingEnd) (d : Ended) (e : ReceivingEnd) → AreEndsOf senders ends →
+    n < length senders → AreEnds (get_or senders n d).end (get_or ends n e)
+ends-at n [] ends d e all within = absurd (omega (arith, within))
 ends-at n (one ∷ senders) [] d e all within = absurd all
 ends-at zero (one ∷ senders) (other ∷ ends) d e (a, all) within = a
 ends-at (suc n) (one ∷ senders) (other ∷ ends) d e (a, all) within = ends-at n senders ends d e all (omega (arith, within))
@@ -81,56 +76,78 @@ roomy-at n ends d room roomy within = roomy n d within
 
 -- a ring's two ends are changed
 pub ends-set :
-    (n : ℕ) (senders : List Ended) (ends : List ReceivingEnd) (sender : Ended) (end : ReceivingEnd) →
-    AllZip (λ (one : Ended) (other : ReceivingEnd). AreEnds one.end other) senders ends → AreEnds sender.end end →
-    AllZip (λ (one : Ended) (other : ReceivingEnd). AreEnds one.end other) (set senders n sender) (set ends n end)
-ends-set n [] [] sender end all two = tt
-ends-set n [] (other ∷ ends) sender end all two = absurd all
+    (n : ℕ) (senders : List Ended) (ends : List ReceivingEnd) (sender : Ended) (end : ReceivingEnd) → AreEndsOf senders ends →
+    AreEnds sender.end end → AreEndsOf (set senders n sender) (set ends n end)
+ends-set n [] ends sender end all two = tt
 ends-set n (one ∷ senders) [] sender end all two = absurd all
 ends-set zero (one ∷ senders) (other ∷ ends) sender end (a, all) two = (two, all)
 ends-set (suc n) (one ∷ senders) (other ∷ ends) sender end (a, all) two = (a, ends-set n senders ends sender end all two)
 
+-- an end is changed after those of the senders
+pub ends-beyond :
+    (n : ℕ) (senders : List Ended) (ends : List ReceivingEnd) (end : ReceivingEnd) → length senders ≤ n →
+    AreEndsOf senders ends → AreEndsOf senders (set ends n end)
+ends-beyond n [] ends end few all = tt
+ends-beyond n (one ∷ senders) [] end few all = absurd all
+ends-beyond zero (one ∷ senders) (other ∷ ends) end few all = absurd (omega (arith, few))
+ends-beyond (suc n) (one ∷ senders) (other ∷ ends) end few (a, all) =
+    (a, ends-beyond n senders ends end (omega (arith, few)) all)
+
+-- what so many senders have sent was received, or what all have sent
+abbrev pub AllRead : ℕ → List Ended → List ReceivingEnd → Type 0
+AllRead zero senders ends = Unit {0}
+AllRead (suc n) [] ends = Unit {0}
+AllRead (suc n) (sender ∷ senders) [] = ⊥
+AllRead (suc n) (sender ∷ senders) (end ∷ ends) = (received end ≡ sender.sent) × AllRead n senders ends
+
 -- what the next sender has sent was received
-taken-next :
-    (n : ℕ) (ends : List ReceivingEnd) (senders : List Ended) (end : ReceivingEnd) (sender : Ended) → n < length ends →
-    n < length senders → received end ≡ sender.sent →
-    take n (map received ends) ≡ take n (map (λ (one : Ended). one.sent) senders) →
-    take (suc n) (map received (set ends n end)) ≡ take (suc n) (map (λ (one : Ended). one.sent) (set senders n sender))
-taken-next n [] senders end sender within others is before = absurd (omega (arith, within))
-taken-next n (other ∷ ends) [] end sender within others is before = absurd (omega (arith, others))
-taken-next zero (other ∷ ends) (one ∷ senders) end sender within others is before = ap (λ (xs : List ℕ). xs ∷ []) is
-taken-next (suc n) (other ∷ ends) (one ∷ senders) end sender within others is before =
-    ap (λ (xs : List ℕ). xs ∷ take (suc n) (map received (set ends n end))) (ap (λ (xss : List (List ℕ)). get_or xss 0 []) before)
-    ∙ ap (λ (xss : List (List ℕ)). one.sent ∷ xss)
-    (taken-next n ends senders end sender (omega (arith, within)) (omega (arith, others)) is
-    (ap (λ (xss : List (List ℕ)). drop 1 xss) before))
+AllRead-next :
+    (n : ℕ) (senders : List Ended) (ends : List ReceivingEnd) (sender : Ended) (end : ReceivingEnd) → n < length senders →
+    n < length ends → received end ≡ sender.sent → AllRead n senders ends →
+    AllRead (suc n) (set senders n sender) (set ends n end)
+AllRead-next n [] ends sender end within others is before = absurd (omega (arith, within))
+AllRead-next n (one ∷ senders) [] sender end within others is before = absurd (omega (arith, others))
+AllRead-next zero (one ∷ senders) (other ∷ ends) sender end within others is before = (is, tt)
+AllRead-next (suc n) (one ∷ senders) (other ∷ ends) sender end within others is (a, before) =
+    (a, AllRead-next n senders ends sender end (omega (arith, within)) (omega (arith, others)) is before)
+
+-- something was received through a ring after those of the senders
+AllRead-beyond :
+    (n : ℕ) (senders : List Ended) (ends : List ReceivingEnd) (end : ReceivingEnd) → length senders ≤ n →
+    AllRead n senders ends → AllRead (suc n) senders (set ends n end)
+AllRead-beyond n [] ends end few before = tt
+AllRead-beyond zero (one ∷ senders) ends end few before = absurd (omega (arith, few))
+AllRead-beyond (suc n) (one ∷ senders) [] end few before = absurd before
+AllRead-beyond (suc n) (one ∷ senders) (other ∷ ends) end few (a, before) =
+    (a, AllRead-beyond n senders ends end (omega (arith, few)) before)
 
 -- the same of the number of rings that the loop has
-pub taken-after :
-    (n : ℕ) (ends : List ReceivingEnd) (senders : List Ended) (end : ReceivingEnd) (sender : Ended) → n < length ends →
-    n < length senders → received end ≡ sender.sent →
-    take n (map received ends) ≡ take n (map (λ (one : Ended). one.sent) senders) →
-    take (n + 1) (map received (set ends n end)) ≡ take (n + 1) (map (λ (one : Ended). one.sent) (set senders n sender))
-taken-after n ends senders end sender within others is before =
+pub AllRead-after :
+    (n : ℕ) (senders : List Ended) (ends : List ReceivingEnd) (sender : Ended) (end : ReceivingEnd) → n < length senders →
+    n < length ends → received end ≡ sender.sent → AllRead n senders ends →
+    AllRead (n + 1) (set senders n sender) (set ends n end)
+AllRead-after n senders ends sender end within others is before =
     let one : suc n ≡ n + 1 = omega arith in
-    subst
-    (λ m. take m (map received (set ends n end)) ≡ take m (map (λ (one : Ended). one.sent) (set senders n sender))) one
-    (taken-next n ends senders end sender within others is before)
+    subst (λ m. AllRead m (set senders n sender) (set ends n end)) one
+    (AllRead-next n senders ends sender end within others is before)
+
+pub AllRead-past :
+    (n : ℕ) (senders : List Ended) (ends : List ReceivingEnd) (end : ReceivingEnd) → length senders ≤ n →
+    AllRead n senders ends → AllRead (n + 1) senders (set ends n end)
+AllRead-past n senders ends end few before =
+    let one : suc n ≡ n + 1 = omega arith in
+    subst (λ m. AllRead m senders (set ends n end)) one (AllRead-beyond n senders ends end few before)
 
 -- what all senders have sent was received
-pub taken-all :
-    (n : ℕ) (ends : List ReceivingEnd) (senders : List Ended) → length ends ≤ n → length senders ≡ length ends →
-    take n (map received ends) ≡ take n (map (λ (one : Ended). one.sent) senders) →
-    map received ends ≡ map (λ (one : Ended). one.sent) senders
-taken-all n [] [] most many before = refl
-taken-all n [] (one ∷ senders) most many before = absurd (omega (arith, many))
-taken-all n (other ∷ ends) [] most many before = absurd (omega (arith, many))
-taken-all zero (other ∷ ends) (one ∷ senders) most many before = absurd (omega (arith, most))
-taken-all (suc n) (other ∷ ends) (one ∷ senders) most many before =
-    ap (λ (xs : List ℕ). xs ∷ map received ends) (ap (λ (xss : List (List ℕ)). get_or xss 0 []) before)
-    ∙ ap (λ (xss : List (List ℕ)). one.sent ∷ xss)
-    (taken-all n ends senders (omega (arith, most)) (omega (arith, many))
-    (ap (λ (xss : List (List ℕ)). drop 1 xss) before))
+pub AllRead-all :
+    (n : ℕ) (senders : List Ended) (ends : List ReceivingEnd) → length senders ≤ n → AllRead n senders ends →
+    HasReceived (map (λ (one : Ended). one.sent) senders) (map received ends)
+AllRead-all n [] ends few before = (map received ends, refl)
+AllRead-all zero (one ∷ senders) ends few before = absurd (omega (arith, few))
+AllRead-all (suc n) (one ∷ senders) [] few before = absurd before
+AllRead-all (suc n) (one ∷ senders) (other ∷ ends) few (a, before) =
+    let rest = AllRead-all n senders ends (omega (arith, few)) before in
+    (rest.0, ap (λ (xs : List ℕ). xs ∷ map received ends) a ∙ ap (λ (xss : List (List ℕ)). one.sent ∷ xss) rest.1)
 
 -- a sender and the other end of its ring come last
 pub ends-push :
@@ -154,17 +171,23 @@ AreEnds-after :
 AreEnds-after sender last-sender end last ((a, b, c, d), e) ((f, g, h, i), j) ((k, l, m, n), o) =
     ((k ∙ a ∙ sym f, l ∙ b ∙ sym g, m ∙ c ∙ sym h, n ∙ d ∙ sym i), j ∙ e ∙ sym o)
 
-pub ends-stay :
-    (senders : List Sending) (ended : List Ended) (firsts lasts : List ReceivingEnd) →
-    AllZip (λ (one : Sending) (other : ReceivingEnd). AreEnds one.end other) senders firsts →
+all-stay :
+    (senders others : List Sending) (ended : List Ended) (firsts lasts : List ReceivingEnd) →
+    AllZip (λ (one : Sending) (other : ReceivingEnd). AreEnds one.end other) (senders ++ others) firsts →
     AllZip (λ (one : Sending) (other : Ended). SameProducer one.end other.end) senders ended →
-    AllZip SameConsumer firsts lasts → AllZip (λ (one : Ended) (other : ReceivingEnd). AreEnds one.end other) ended lasts
-ends-stay [] [] [] [] all same kept = tt
-ends-stay [] [] [] (last ∷ lasts) all same kept = absurd kept
-ends-stay [] [] (first ∷ firsts) lasts all same kept = absurd all
-ends-stay [] (other ∷ ended) firsts lasts all same kept = absurd same
-ends-stay (sender ∷ senders) [] firsts lasts all same kept = absurd same
-ends-stay (sender ∷ senders) (other ∷ ended) [] lasts all same kept = absurd all
-ends-stay (sender ∷ senders) (other ∷ ended) (first ∷ firsts) [] all same kept = absurd kept
-ends-stay (sender ∷ senders) (other ∷ ended) (first ∷ firsts) (last ∷ lasts) (a, all) (b, same) (c, kept) =
-    (AreEnds-after sender.end other.end first last a b c, ends-stay senders ended firsts lasts all same kept)
+    AllZip SameConsumer firsts lasts → AreEndsOf ended lasts
+all-stay [] others [] firsts lasts all same kept = tt
+all-stay [] others (other ∷ ended) firsts lasts all same kept = absurd same
+all-stay (sender ∷ senders) others [] firsts lasts all same kept = absurd same
+all-stay (sender ∷ senders) others (other ∷ ended) [] lasts all same kept = absurd all
+all-stay (sender ∷ senders) others (other ∷ ended) (first ∷ firsts) [] all same kept = absurd kept
+all-stay (sender ∷ senders) others (other ∷ ended) (first ∷ firsts) (last ∷ lasts) (a, all) (b, same) (c, kept) =
+    (AreEnds-after sender.end other.end first last a b c, all-stay senders others ended firsts lasts all same kept)
+
+pub ends-stay :
+    (opened : List Sending) (ended : List Ended) (firsts lasts : List ReceivingEnd) →
+    AllZip (λ (one : Sending) (other : ReceivingEnd). AreEnds one.end other) opened firsts → HaveEnded opened ended →
+    AllZip SameConsumer firsts lasts → AreEndsOf ended lasts
+ends-stay opened ended firsts lasts all (senders, others, parts, same) kept =
+    all-stay senders others ended firsts lasts
+    (subst (λ those. AllZip (λ (one : Sending) (other : ReceivingEnd). AreEnds one.end other) those firsts) parts all) same kept

@@ -1,9 +1,9 @@
 -- What holds of all logs.
 use Rattle.std.specs.Prelude.{ℕ, Bool, List}
 use Rattle.std.specs.List.{AllZip}
-use Rattle.rtrb.specs.Ring.{SameConsumer, SameProducer}
+use Rattle.rtrb.specs.Ring.{SameConsumer}
 use Rattle.streams.specs.Streams.{Known}
-use Rattle.log_queues.specs.Queues.{AreEnds, Ended, HaveLogged, HaveWritten, ReceivingEnd, Sending}
+use Rattle.log_queues.specs.Queues.{AreEnds, AreEndsOf, Ended, HaveEnded, HaveLogged, HaveWritten, ReceivingEnd, Sending}
 
 -- what was logged, and then written in one more round, was logged
 abbrev pub LogsOn : Type 0
@@ -19,10 +19,9 @@ LogsTwice =
     HaveLogged befores middles old between was_cut was_between → HaveLogged middles afters between new was_between is_cut →
     HaveLogged befores afters old new was_cut is_cut
 
--- senders that have ended had the other ends of a writer's rings, if they had them as they were opened
+-- senders that have ended had the other ends of a writer's first rings, if they had them as they were opened
 abbrev pub EndsStay : Type 0
 EndsStay =
     (senders : List Sending) (ended : List Ended) (firsts lasts : List ReceivingEnd) →
-    AllZip (λ sender end. AreEnds sender.end end) senders firsts →
-    AllZip (λ sender last. SameProducer sender.end last.end) senders ended → AllZip SameConsumer firsts lasts →
-    AllZip (λ sender end. AreEnds sender.end end) ended lasts
+    AllZip (λ sender end. AreEnds sender.end end) senders firsts → HaveEnded senders ended →
+    AllZip SameConsumer firsts lasts → AreEndsOf ended lasts

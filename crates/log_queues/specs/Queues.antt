@@ -1,10 +1,11 @@
 -- The lines that are sent to a log's writer, and what it writes; this project's profile.
-use Rattle.std.specs.Prelude.{◌≡◌, ◌+◌, ◌-◌, ◌^◌, ℕ, zero, suc, Bool, true, false, List, [], ◌∷◌, ◌++◌, codes, decimal, min}
+use Rattle.std.specs.Prelude.{◌≡◌, ◌+◌, ◌-◌, ◌^◌, ℕ, zero, suc, Bool, true, false, List, [], ◌∷◌, ◌++◌, codes, decimal, map, min}
+use Rattle.std.specs.List.{AllZip}
 use Rattle.std.specs.Io.KnownBytes.{Appends}
 use Rattle.streams.specs.Streams.{Known}
 use Rattle.streams.specs.Writing.{Breaks}
 use Rattle.std.specs.declared.alloc.Global.{Global}
-use Rattle.rtrb.specs.Ring.{IsPair, consumer_capacity, producer_capacity}
+use Rattle.rtrb.specs.Ring.{IsPair, SameProducer, consumer_capacity, producer_capacity}
 use Rattle.rtrb.specs.declared.AnyItems.{AnyItems}
 use Rattle.rtrb.specs.declared.consumer.Consumer.{Consumer}
 use Rattle.rtrb.specs.declared.producer.Producer.{Producer}
@@ -38,6 +39,22 @@ pub record Ended : Type 0 where
 pub record Receiving : Type 0 where
   pub ends : List ReceivingEnd
   pub received : List (List ℕ)
+
+-- senders have ended that had the other ends of the first of a writer's rings, in their order
+abbrev pub AreEndsOf : List Ended → List ReceivingEnd → Type 0
+AreEndsOf [] ends = Unit {0}
+AreEndsOf (sender ∷ senders) [] = ⊥
+AreEndsOf (sender ∷ senders) (end ∷ ends) = AreEnds sender.end end × AreEndsOf senders ends
+
+-- the first of the senders that were opened have ended, in their order
+abbrev pub HaveEnded : List Sending → List Ended → Type 0
+HaveEnded opened ended =
+    (senders others : List Sending) × (opened ≡ senders ++ others)
+    × AllZip (λ (sender : Sending) (last : Ended). SameProducer sender.end last.end) senders ended
+
+-- all that the first senders have sent was received
+abbrev pub HasReceived : List (List ℕ) → List (List ℕ) → Type 0
+HasReceived sents received = (others : List (List ℕ)) × (received ≡ sents ++ others)
 
 -- a sender that has sent nothing, with room for so many bytes
 abbrev pub IsOpened : ℕ → Sending → Type 0
@@ -103,3 +120,11 @@ WrittenIn (suc rounds) befores afters old new was_cut is_cut =
 -- what was received from each sender in the meantime was written, round after round, and nothing else
 abbrev pub HaveLogged : List (List ℕ) → List (List ℕ) → Known → Known → Bool → Bool → Type 0
 HaveLogged befores afters old new was_cut is_cut = (rounds : ℕ) × WrittenIn rounds befores afters old new was_cut is_cut
+
+-- rule: Whole log
+-- after a whole line a log has what was received of its senders, in rounds, and nothing else; and all that the first of
+-- them have sent was received
+abbrev pub IsWhole : List (List ℕ) → Known → Known → Type 0
+IsWhole sents old new =
+    (others : List (List ℕ)) × (is_cut : Bool)
+    × HaveLogged (map (λ (_ : List ℕ). []) (sents ++ others)) (sents ++ others) old new false is_cut

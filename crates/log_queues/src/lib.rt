@@ -3,9 +3,9 @@
 //! `open_log` makes a `Log`: a `LineSender` for each of several threads, and a `LogWriter` for one more. A sender waits for
 //! nobody: a line goes into its ring of bytes whole, or is counted as lost, and the next line that goes is preceded by one
 //! that says how many were lost. A sender that is finished sends that one alone. The writer writes to a `Page` what has
-//! come from all senders, and sleeps until the `Signal` that they share wakes it. `start_writer` gives it a thread of its
-//! own, which gives it back at its end; then `write_rest` writes what is left of senders that have ended, so that all that
-//! they have sent was received. Read `specs/Queues.antt`.
+//! come from all senders, and sleeps until the `Signal` that they share wakes it. `Writing::open` opens a log with its page,
+//! and `start` gives it a thread of its own. Once senders have ended, the thread's `finish` writes what is left of them, and
+//! gives the page back: then the log is whole. Read `specs/Queues.antt`.
 //!
 //! It doesn't know what a line says, and promises no order between the lines of two senders.
 
@@ -21,10 +21,12 @@ mod signal;
 mod task;
 mod thread;
 mod writer;
+mod writing;
 
 pub use crate::opening::{Log, open_log};
 pub use crate::page::Page;
 pub use crate::sender::{EndedSender, LineSender};
 pub use crate::signal::Signal;
-pub use crate::thread::{WriterTask, WriterThread, start_writer};
+pub use crate::thread::WriterThread;
 pub use crate::writer::LogWriter;
+pub use crate::writing::Writing;

@@ -3,7 +3,7 @@
 ghost use Rattle.std.specs.Prelude.{◌≡◌, ◌+◌, ◌++◌, ◌≤◌, All, IsFalse, IsTrue, length, map};
 ghost use Rattle.std.specs.List.{AllZip};
 ghost use Rattle.rtrb.specs.Ring.{SameConsumer, consumer_capacity, known_items, received};
-ghost use Rattle.log_queues.specs.Queues.{AreEnds, HasWritten, HaveWritten};
+ghost use Rattle.log_queues.specs.Queues.{AreEnds, AreEndsOf, HasReceived, HasWritten, HaveWritten};
 
 use crate::page::Page;
 use crate::sender::EndedSender;
@@ -18,6 +18,7 @@ fn write_ring<W: WriteWhole>(
 ) -> bool
     ensures written { HasWritten (received ring.old) (received ring.new) (W.output page.old.out.now)
         (W.output page.new.out.now) page.old.is_cut page.new.is_cut }
+    ensures out { page.new.out.ghost_name ≡ page.old.out.ghost_name }
     ensures none { IsFalse result → received ring.new ≡ received ring.old }
     ensures some { IsTrue result → received ring.new ≡ received ring.old → ⊥ }
     ensures known { length (known_items ring.old) ≤ length room.old →
@@ -41,6 +42,7 @@ pub(crate) fn write_rings<W: WriteWhole>(
 ) -> bool
     ensures written { HaveWritten (map received rings.old) (map received rings.new) (W.output page.old.out.now)
         (W.output page.new.out.now) page.old.is_cut page.new.is_cut }
+    ensures out { page.new.out.ghost_name ≡ page.old.out.ghost_name }
     ensures none { IsFalse result → map received rings.new ≡ map received rings.old }
     ensures some { IsTrue result → map received rings.new ≡ map received rings.old → ⊥ }
     ensures same { AllZip SameConsumer rings.old rings.new }
@@ -80,6 +82,7 @@ fn write_rest<W: WriteWhole>(
     requires room { consumer_capacity ring.old ≤ length room.old }
     ensures written { HasWritten (received ring.old) (received ring.new) (W.output page.old.out.now)
         (W.output page.new.out.now) page.old.is_cut page.new.is_cut }
+    ensures out { page.new.out.ghost_name ≡ page.old.out.ghost_name }
     ensures all { received ring.new ≡ ended.old.sent }
     ensures same { SameConsumer ring.old ring.new }
     ensures ends { AreEnds ended.new.end ring.new }
@@ -91,22 +94,27 @@ fn write_rest<W: WriteWhole>(
     look(ring, ended);
 }
 
-/// Writes the rest of what each sender has sent, once all have ended.
+/// Writes the rest of what the first senders have sent, which have ended, and what has come from the others.
 pub(crate) fn write_rests<W: WriteWhole>(
     rings: &mut [Consumer<u8>],
     ended: &mut [EndedSender],
     room: &mut [u8],
     page: &mut Page<'_, W>,
 )
-    requires ends { AllZip (λ sender end. AreEnds sender.end end) ended.old rings.old }
+    requires ends { AreEndsOf ended.old rings.old }
     requires room { All (λ end. consumer_capacity end ≤ length room.old) rings.old }
     ensures written { HaveWritten (map received rings.old) (map received rings.new) (W.output page.old.out.now)
         (W.output page.new.out.now) page.old.is_cut page.new.is_cut }
-    ensures all { map received rings.new ≡ map (λ sender. sender.sent) ended.old }
+    ensures out { page.new.out.ghost_name ≡ page.old.out.ghost_name }
+    ensures all { HasReceived (map (λ sender. sender.sent) ended.old) (map received rings.new) }
     ensures same { AllZip SameConsumer rings.old rings.new }
     ensures room { length room.new ≡ length room.old }
 {
     for index in 0..rings.len() {
-        write_rest(&mut rings[index], &mut ended[index], room, page);
+        if index < ended.len() {
+            write_rest(&mut rings[index], &mut ended[index], room, page);
+        } else {
+            write_ring(&mut rings[index], room, page);
+        }
     }
 }

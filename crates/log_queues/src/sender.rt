@@ -109,7 +109,8 @@ impl LineSender {
 
     /// Counts a line as lost that isn't sent.
     pub fn lose(&mut self)
-        ensures { Loses self.old self.new }
+        ensures loses { Loses self.old self.new }
+        ensures ring { SameProducer self.old.end self.new.end }
     {
         self.lost = self.lost.saturating_add(1);
     }

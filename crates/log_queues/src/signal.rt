@@ -1,5 +1,6 @@
-use std::sync::Wait;
+use std::alloc::Global;
 use std::sync::atomic::{AtomicBool, Ordering};
+use std::sync::{Arc, Wait};
 use std::thread::Parker;
 
 /// What the senders of a log wake its writer by, and by which it learns that there are no more lines.
@@ -37,5 +38,15 @@ impl Signal {
     // Sleeps until a line is sent, or there are no more.
     pub(crate) fn wait<R: Wait>(&self, rt: &R) {
         self.parker.park(rt);
+    }
+}
+
+/// Says that no more lines will be sent, when it is dropped.
+pub(crate) struct LastLine(pub(crate) Arc<Signal, Global>);
+
+impl Drop for LastLine {
+    fn drop(self) {
+        let LastLine(signal) = self;
+        signal.end();
     }
 }

@@ -3,7 +3,7 @@
 ghost use Rattle.std.specs.Prelude.{◌≡◌, ◌≤◌, All, IsFalse, IsTrue, length, map};
 ghost use Rattle.std.specs.List.{AllZip};
 ghost use Rattle.rtrb.specs.Ring.{SameConsumer, consumer_capacity};
-ghost use Rattle.log_queues.specs.Queues.{AreEnds, HaveLogged, HaveWritten};
+ghost use Rattle.log_queues.specs.Queues.{AreEndsOf, HasReceived, HaveLogged, HaveWritten};
 
 use crate::page::Page;
 use crate::rings::{write_rests, write_rings};
@@ -45,6 +45,7 @@ impl LogWriter {
     pub fn write_now<W: WriteWhole>(&mut self, page: &mut Page<'_, W>) -> bool
         ensures written { HaveWritten self.old.received self.new.received (W.output page.old.out.now)
             (W.output page.new.out.now) page.old.is_cut page.new.is_cut }
+        ensures out { page.new.out.ghost_name ≡ page.old.out.ghost_name }
         ensures none { IsFalse result → self.new.received ≡ self.old.received }
         ensures some { IsTrue result → self.new.received ≡ self.old.received → ⊥ }
         ensures same { AllZip SameConsumer self.old.ends self.new.ends }
@@ -57,6 +58,7 @@ impl LogWriter {
     pub fn write_all<R: Wait, W: WriteWhole>(&mut self, rt: &R, page: &mut Page<'_, W>)
         ensures written { HaveLogged self.old.received self.new.received (W.output page.old.out.now)
             (W.output page.new.out.now) page.old.is_cut page.new.is_cut }
+        ensures out { page.new.out.ghost_name ≡ page.old.out.ghost_name }
         ensures same { AllZip SameConsumer self.old.ends self.new.ends }
     {
         for _ in rt.forever() {
@@ -72,14 +74,16 @@ impl LogWriter {
     }
 
     // rule: Written log
-    /// Writes the rest of what its senders have sent, once all have ended; they are in the order in which they were opened.
+    /// Writes the rest of what the first senders have sent, once they have ended, and what has come from the others; they
+    /// are in the order in which they were opened.
     ///
     /// Then all that they have sent was received. A line that can't be written is lost.
     pub fn write_rest<W: WriteWhole>(&mut self, ended: Vec<EndedSender>, page: &mut Page<'_, W>)
-        requires ends { AllZip (λ sender end. AreEnds sender.end end) ended.items self.old.ends }
+        requires ends { AreEndsOf ended.items self.old.ends }
         ensures written { HaveWritten self.old.received self.new.received (W.output page.old.out.now)
             (W.output page.new.out.now) page.old.is_cut page.new.is_cut }
-        ensures all { self.new.received ≡ map (λ sender. sender.sent) ended.items }
+        ensures out { page.new.out.ghost_name ≡ page.old.out.ghost_name }
+        ensures all { HasReceived (map (λ sender. sender.sent) ended.items) self.new.received }
         ensures same { AllZip SameConsumer self.old.ends self.new.ends }
     {
         let mut ended = ended;

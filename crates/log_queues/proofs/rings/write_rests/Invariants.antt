@@ -1,7 +1,8 @@
-use Rattle.std.proofs.Common.{◌≡◌, map, length, take}
+use Rattle.std.proofs.Common.{◌≡◌, map, length}
 use Rattle.std.specs.List.{AllZip}
 use Rattle.rtrb.specs.Ring.{SameConsumer, received}
-use Rattle.log_queues.specs.Queues.{AreEnds}
+use Rattle.log_queues.specs.Queues.{AreEndsOf}
+use Rattle.log_queues.proofs.RingLemmas.{AllRead}
 use Rattle.log_queues.proofs.WrittenLemmas.{WrittenTo}
 use Rattle.log_queues.proofs.rings.write_rests.Given as goal
 
@@ -13,9 +14,10 @@ invariant-loop-index g l =
       written :
           WrittenTo received l.index l.fn.rings l.rings (output l.fn.page.out.now) (output l.page.out.now)
           l.fn.page.is_cut l.page.is_cut;
-      all : take l.index (map received l.rings) ≡ take l.index (map (λ sender. sender.sent) l.ended);
+      out : l.page.out.ghost_name ≡ l.fn.page.out.ghost_name;
+      all : AllRead l.index l.ended l.rings;
       sent : map (λ sender. sender.sent) l.ended ≡ map (λ sender. sender.sent) l.fn.ended;
-      ends : AllZip (λ sender end. AreEnds sender.end end) l.ended l.rings;
+      ends : AreEndsOf l.ended l.rings;
       same : AllZip SameConsumer l.fn.rings l.rings;
       room : length l.room ≡ length l.fn.room;
     }

@@ -9,6 +9,7 @@ pub loop-ring-init : goal.loop-ring-init
 loop-ring-init g c =
     record {
       written = (refl, refl, refl);
+      out = refl;
       none = λ _. refl;
       some = λ is. absurd (true≢false (sym is));
       same = all-same c.args.rings.now;
@@ -38,6 +39,7 @@ loop-ring-preserved g c =
     elim c.if-write_ring.branch [
       | then-write_ring w ↦ record {
         written = next;
+        out = c.write_ring.ensures.out ∙ before.invariant.out;
         none = λ not. absurd (true≢false (sym w.found-is ∙ not));
         some = λ is same. c.write_ring.ensures.some w.if-write_ring.true (nothing same).0;
         same = same;
@@ -45,6 +47,7 @@ loop-ring-preserved g c =
       }
       | else-write_ring w ↦ record {
         written = next;
+        out = c.write_ring.ensures.out ∙ before.invariant.out;
         none = λ not.
             map-set_same received index before.rings c.ring-item.result ring (c.write_ring.ensures.none w.if-write_ring.false)
             ∙ before.invariant.none (sym w.found-is ∙ not);

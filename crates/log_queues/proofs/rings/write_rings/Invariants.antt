@@ -12,6 +12,7 @@ invariant-loop-ring g l =
       written :
           WrittenTo received l.ring-index l.fn.rings l.rings (output l.fn.page.out.now) (output l.page.out.now)
           l.fn.page.is_cut l.page.is_cut;
+      out : l.page.out.ghost_name ≡ l.fn.page.out.ghost_name;
       none : IsFalse l.found → map received l.rings ≡ map received l.fn.rings;
       some : IsTrue l.found → map received l.rings ≡ map received l.fn.rings → ⊥;
       same : AllZip SameConsumer l.fn.rings l.rings;

@@ -1,10 +1,10 @@
-use Rattle.std.proofs.Common.{refl}
+use Rattle.std.proofs.Common.{◌∙◌, refl}
 use Rattle.log_queues.proofs.RingLemmas.{all-after, all-same}
 use Rattle.log_queues.proofs.RoundLemmas.{HaveLogged-next}
 use Rattle.log_queues.proofs.writer.LogWriter.write_all.Goals as goal
 
 pub loop-init : goal.loop-init
-loop-init g c = record { next = tt; finite = tt; logged = (0, (refl, refl, refl)); same = all-same c.args.self.now.ends }
+loop-init g c = record { next = tt; finite = tt; logged = (0, (refl, refl, refl)); out = refl; same = all-same c.args.self.now.ends }
 
 pub loop-preserved-then-write_now : goal.loop-preserved-then-write_now
 loop-preserved-then-write_now g c =
@@ -17,6 +17,7 @@ loop-preserved-then-write_now g c =
           (output c.args.page.now.out.now) (output c.loop.page.out.now) (output c.write_now.new.page.out.now)
           c.args.page.now.is_cut c.loop.page.is_cut c.write_now.new.page.is_cut c.loop.invariant.logged
           c.write_now.ensures.written;
+      out = c.write_now.ensures.out ∙ c.loop.invariant.out;
       same =
           all-after c.args.self.now.ends c.loop.self.ends c.write_now.new.self.ends c.loop.invariant.same
           c.write_now.ensures.same;
@@ -33,6 +34,7 @@ loop-preserved g c =
           (output c.args.page.now.out.now) (output c.loop.page.out.now) (output c.write_now.new.page.out.now)
           c.args.page.now.is_cut c.loop.page.is_cut c.write_now.new.page.is_cut c.loop.invariant.logged
           c.write_now.ensures.written;
+      out = c.write_now.ensures.out ∙ c.loop.invariant.out;
       same =
           all-after c.args.self.now.ends c.loop.self.ends c.write_now.new.self.ends c.loop.invariant.same
           c.write_now.ensures.same;

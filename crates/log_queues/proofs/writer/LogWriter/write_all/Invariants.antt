@@ -1,3 +1,4 @@
+use Rattle.std.proofs.Common.{◌≡◌}
 use Rattle.std.specs.List.{AllZip}
 use Rattle.rtrb.specs.Ring.{SameConsumer}
 use Rattle.log_queues.specs.Queues.{HaveLogged}
@@ -13,5 +14,6 @@ invariant-loop g l =
       logged :
           HaveLogged l.fn.self.received l.self.received (output l.fn.page.out.now) (output l.page.out.now) l.fn.page.is_cut
           l.page.is_cut;
+      out : l.page.out.ghost_name ≡ l.fn.page.out.ghost_name;
       same : AllZip SameConsumer l.fn.self.ends l.self.ends;
     }
