@@ -1,5 +1,11 @@
 //! The access log of a server: a line for each reply, in the combined form that web servers write.
 //!
+//! `LoggedPort` is a port over another one of `http_ports`, whose replies it logs. A reply is what is sent from one
+//! timestamp at which a message may begin up to the next one, or to the connection's end. Once it is done, its line is
+//! sent to the log's writer by a `LineSender` of `log_queues`, or counted as lost: read `specs/Replies.antt`,
+//! `specs/Entries.antt` and `specs/Logs.antt`. The `Places` of its slots are made before, so that it begins without
+//! memory.
+//!
 //! `AccessLog` is a `Watch` of a server's connections, one after the other, and `ReplyLog` one of many that are open at
 //! once, of each of which it keeps what it has `Seen`. Once a reply has been written, it writes a line: the
 //! address, the time, the first line of the message, the status, how many bytes the body of the reply had, the
@@ -7,8 +13,8 @@
 //! so are a quote and a backslash.
 //!
 //! It holds up no reply and rejects none: a line that can't be written is lost, and so is one that memory is
-//! lacking for. Read `specs/Lines.antt` for the bytes of a line. Which message it is of, and its time, are tested
-//! and not proved.
+//! lacking for. Read `specs/Lines.antt` for the bytes of a line. Of these two logs it is tested and not proved which
+//! message a line is of; its time is tested of all.
 //!
 //! `LastReply` says of a connection's last reply whether it has fewer bytes than its head says.
 
@@ -16,12 +22,18 @@
 
 mod cut;
 mod entry;
+mod kept;
 mod lines;
 mod log;
+mod logged_port;
 mod message;
+mod places;
+mod port_log;
 mod seen;
 mod times;
 
 pub use crate::cut::{CutReply, LastReply};
 pub use crate::log::{AccessLog, ReplyLog};
+pub use crate::logged_port::LoggedPort;
+pub use crate::places::Places;
 pub use crate::seen::Seen;

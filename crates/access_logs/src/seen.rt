@@ -1,5 +1,11 @@
+ghost use Rattle.std.specs.Prelude.{◌≡◌, [], length, nat_lt};
+ghost use Rattle.access_logs.specs.Entries.{IsEntry, size_of};
+ghost use Rattle.access_logs.specs.Replies.{Piece, begun, with_message, with_more};
+ghost use Rattle.access_logs.specs.Sights.{IsSeenOf};
+
 use crate::cut::CutReply;
 use crate::entry::Entry;
+use crate::kept::Kept;
 use crate::message::{asker_of, first_line, replied_in};
 use std::alloc::Global;
 use std::net::IpAddr;
@@ -14,71 +20,78 @@ const MAX_REPLY: usize = 1024;
 #[derive(Drop)]
 pub struct Seen {
     address: Option<IpAddr>,
-    message: Vec<u8>,
-    reply: Vec<u8>,
-    written: u64,
-}
-
-// Appends the first of the bytes that there is room for.
-fn keep(kept: &mut Vec<u8>, bytes: &[u8], most: usize) {
-    let room = most.saturating_sub(kept.len());
-    let count = room.min(bytes.len());
-    let _ = kept.extend_from_slice(&bytes[..count]);
+    pub(crate) message: Kept,
+    pub(crate) reply: Kept,
+    pub(crate) written: u64,
 }
 
 impl Seen {
     // Nothing yet, of a connection from this address.
-    pub(crate) fn new(alloc: Global, address: Option<IpAddr>) -> Seen {
+    pub(crate) fn new(alloc: Global, address: Option<IpAddr>) -> Seen
+        ensures { IsSeenOf (begun []) result }
+    {
         Seen {
             address,
-            message: Vec::new(alloc),
-            reply: Vec::new(alloc),
+            message: Kept::new(alloc, MAX_MESSAGE),
+            reply: Kept::new(alloc, MAX_REPLY),
             written: 0,
         }
     }
 
     // Takes over the address of the next connection.
-    pub(crate) fn set_address(&mut self, address: Option<IpAddr>) {
+    pub(crate) fn set_address(&mut self, address: Option<IpAddr>)
+        ensures { (piece : Piece) → IsSeenOf piece self.old → IsSeenOf piece self.new }
+    {
         self.address = address;
     }
 
     // Notes bytes of the message.
-    pub(crate) fn read(&mut self, bytes: &[u8]) {
-        keep(&mut self.message, bytes, MAX_MESSAGE);
+    pub(crate) fn read(&mut self, bytes: &[u8])
+        ensures { (piece : Piece) → IsSeenOf piece self.old → IsSeenOf (with_message piece bytes.now) self.new }
+    {
+        self.message.add(bytes);
     }
 
     // Notes bytes of the reply.
-    pub(crate) fn write(&mut self, bytes: &[u8]) {
-        keep(&mut self.reply, bytes, MAX_REPLY);
+    pub(crate) fn write(&mut self, bytes: &[u8])
+        ensures { (piece : Piece) → IsSeenOf piece self.old → IsSeenOf (with_more piece bytes.now) self.new }
+    {
+        self.reply.add(bytes);
         self.written = self.written.saturating_add(bytes.len() as u64);
     }
 
     // Whether a part of a reply was written.
-    pub(crate) fn is_replied(&self) -> bool {
+    pub(crate) fn is_replied(&self) -> bool
+        ensures { (piece : Piece) → IsSeenOf piece self.now → result ≡ nat_lt 0 (length piece.reply) }
+    {
         self.written > 0
     }
 
     // The reply, if its head was written, and says of more bytes than were written after it.
     pub(crate) fn cut(&self) -> Option<CutReply<'_>> {
-        let replied = replied_in(&self.reply);
+        let replied = replied_in(&self.reply.bytes);
         let (head, size) = (replied.head?, replied.size?);
         if self.written.saturating_sub(head) >= size {
             return None;
         }
         Some(CutReply {
-            line: first_line(&self.message),
+            line: first_line(&self.message.bytes),
             size,
         })
     }
 
+    // rule: Line of a reply
     // What a line says of the reply, at a time.
-    pub(crate) fn entry(&self, seconds: u64) -> Entry<'_> {
-        let asker = asker_of(&self.message);
-        let replied = replied_in(&self.reply);
+    pub(crate) fn entry(&self, seconds: u64) -> Entry<'_>
+        ensures { (piece : Piece) → IsSeenOf piece self.now
+            → IsEntry self.now.message.bytes.items self.now.reply.bytes.items (size_of piece.reply) result }
+    {
+        let asker = asker_of(&self.message.bytes);
+        let replied = replied_in(&self.reply.bytes);
         Entry {
             address: self.address,
             seconds,
-            line: first_line(&self.message),
+            line: first_line(&self.message.bytes),
             status: replied.status,
             size: self
                 .written
@@ -89,7 +102,9 @@ impl Seen {
     }
 
     // Forgets the message and its reply.
-    pub(crate) fn forget(&mut self) {
+    pub(crate) fn forget(&mut self)
+        ensures { (piece : Piece) → IsSeenOf piece self.old → IsSeenOf (begun []) self.new }
+    {
         self.message.clear();
         self.reply.clear();
         self.written = 0;

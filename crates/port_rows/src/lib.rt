@@ -30,6 +30,8 @@ mod lines;
 #[cfg(test)]
 mod log_tests;
 #[cfg(test)]
+mod logs;
+#[cfg(test)]
 mod peers;
 #[cfg(test)]
 mod port_server;

@@ -5,10 +5,11 @@ ghost use Rattle.std.specs.Prelude.{◌≡◌};
 
 use crate::desk::{CLOCK, Echo, FILES};
 use crate::lines::expand;
-use access_logs::{ReplyLog, Seen};
+use crate::logs::{lines_of, open_lines};
+use access_logs::{LoggedPort, Places};
 use http_ports::{Terms, run};
 use http_sessions::Buffers;
-use http_talks::{Talk, Talks, Watched, WatchedTalks};
+use http_talks::{Talk, Talks};
 use mio_ports::{EndSign, Listener, MioPort};
 use std::alloc::Global;
 use std::io::{Read, Write};
@@ -141,29 +142,27 @@ const PIPELINE: &str = "\
 %200*GET /a HTTP/1.1~~%|%200*HTTP/1.1 404 Not Found~Content-Length: 0~~%
 GET /b HTTP/1.1~~|HTTP/1.1 404 Not Found~Content-Length: 0~~";
 
-// Serves two connections of a listener, and writes their lines.
+// Serves two connections of a listener, and gives their lines.
 fn serve_logged<R: Wait + Net + Clock + AllocGlobal>(
     rt: &R,
     listener: TcpListener,
-    lines: &mut Vec<u8>,
-) -> Option<u64> {
+) -> Option<Vec<u8>> {
     let alloc = rt.alloc();
     let files = FILES;
-    let log = ReplyLog::new(alloc, &CLOCK, lines);
-    let talks = WatchedTalks {
-        talks: Talks {
-            alloc,
-            site: &files,
-        },
-        watch: &log,
+    let talks = Talks {
+        alloc,
+        site: &files,
     };
     let mut desk = Echo { alloc };
     let mut room = Buffers::new(alloc).ok()?;
-    let mut conns: [Option<Watched<Seen>>; 2] = [None, None];
+    let mut conns: [Option<Talk>; 2] = [None, None];
     let listener = Arc::new(alloc, Listener::Tcp(listener)).ok()?;
     let sign = EndSign::new(false);
-    let mut port = MioPort::new(rt, listener, &sign, terms_of(2))?;
-    Some(run(
+    let port = MioPort::new(rt, listener, &sign, terms_of(2))?;
+    let (lines, writer) = open_lines(alloc)?;
+    let places = Places::new(alloc, 2).ok()?;
+    let mut port = LoggedPort::new(alloc, port, lines, places, &CLOCK);
+    let lost = run(
         rt,
         &mut port,
         &talks,
@@ -171,7 +170,13 @@ fn serve_logged<R: Wait + Net + Clock + AllocGlobal>(
         &mut [0; 4096],
         &mut conns,
         &mut desk,
-    ))
+    );
+    let (_, ended) = port.into_parts();
+    if lost == 0 {
+        Some(lines_of(alloc, ended, writer))
+    } else {
+        None
+    }
 }
 
 // How many lines come before the one of the second client.
@@ -188,8 +193,7 @@ fn lines_before_the_second(lines: &[u8]) -> usize {
 fn serves_a_client_beside_one_of_many_messages(rt: HostRuntime) -> Result<(), Fail> {
     let mut streams = Vec::new(rt.alloc());
     let listener = connect_all(&rt, &mut streams, PIPELINE).ok_or("no clients")?;
-    let mut lines = Vec::new(rt.alloc());
-    assert!(rt; serve_logged(&rt, listener, &mut lines) == Some(0));
+    let lines = serve_logged(&rt, listener).ok_or("no lines")?;
     assert!(rt; lines_before_the_second(&lines) < 150);
     let wrong = wrong_client(rt.alloc(), &mut streams, PIPELINE);
     assert!(rt; wrong.is_empty(), "{wrong}");

@@ -1,0 +1,6 @@
+use Rattle.std.proofs.Common.{◌≡◌, ◌<◌, ℕ, true, get_or}
+use Rattle.access_logs.specs.Entries.{ends_line}
+use Rattle.access_logs.proofs.message.first_line.Given as goal
+
+abbrev pub invariant-loop-index : goal.invariant-loop-index
+invariant-loop-index l = (k : ℕ) → k < l.index → ends_line (get_or l.bytes k 0) ≡ true
