@@ -3,5 +3,7 @@ mod CheckLemmas
 mod ChoiceLemmas
 mod ClientLemmas
 mod CountLemmas
+mod OutletLemmas
 mod RunLemmas
+mod SenderLemmas
 mod ShowLemmas

@@ -1,5 +1,5 @@
 -- What the workers of a server and its operator came to, once all began.
-use Rattle.std.proofs.Common.{◌≡◌, ◌∙◌, ◌⊎◌, ℕ, zero, suc, ◌<◌, All, Bool, true, List, [], ◌∷◌, Option, Some, None, Result, Ok, Err, IfOk, inl, inr, refl, ap, arith, get_or, length, map, option_map, subst, sym}
+use Rattle.std.proofs.Common.{◌≡◌, ◌∙◌, ◌⊎◌, ◌&&◌, ℕ, zero, suc, ◌<◌, All, Bool, true, List, [], ◌∷◌, Option, Some, None, Result, Ok, Err, IfOk, IfSome, inl, inr, refl, ap, arith, get_or, length, map, option_map, subst, sym}
 use Rattle.std.specs.Io.KnownBytes.{Appends}
 use Rattle.std.specs.List.{AllZip}
 use Rattle.std.specs.Option.{is_some}
@@ -21,14 +21,16 @@ use Rattle.records.specs.declared.mirror.Mirror.{Mirror}
 use Rattle.service_desks.specs.Served.{IsWorked}
 use Rattle.service_desks.specs.States.{Publication, Store}
 use Rattle.systems.specs.Edges.{Edges}
+use Rattle.log_queues.specs.Queues.{Ended as SenderEnd, Sending}
 use Rattle.omaha_server.specs.Jobs.{IsClients, IsManned}
+use Rattle.omaha_server.specs.Logging.{AreLogged, HasSent}
 use Rattle.omaha_server.specs.Opening.{AreClientTerms, IsOperatorsPort, client_terms}
 use Rattle.omaha_server.specs.OperatorPorts.{has_operator, terms_left}
 use Rattle.omaha_server.specs.Passages.{HaveAcceptedAll, Passages, passage_of, passages_of}
 use Rattle.omaha_server.specs.Places.{ArePorts}
 use Rattle.omaha_server.specs.Runs.{HasServed, HaveRun, IsPublished, PrintsLines}
 use Rattle.omaha_server.specs.Serving.{AreServed, AreTotals, IsOperated, IsReady, IsWorkersPort, PrintsTotals, Serves, ServesToEnd, begun, is_single, with_mirrors}
-use Rattle.omaha_server.specs.Overviews.{overview, overview_at}
+use Rattle.omaha_server.specs.Overviews.{Overview, overview, overview_at}
 use Rattle.operator_pages.specs.declared.counts.Counts.{Counts}
 use Rattle.operator_pages.specs.declared.publishes.Publish.{Publish}
 use Rattle.services.specs.Totals.{names_of, totals_string}
@@ -44,11 +46,13 @@ use Rattle.omaha_server.specs.declared.ports.ServedPort.{ServedPort}
 use Rattle.omaha_server.specs.declared.running.Ended.{Ended}
 use Rattle.omaha_server.specs.declared.running.Run.{Run}
 use Rattle.services.specs.declared.service.Service.{Service}
+use Rattle.omaha_server.specs.declared.setup.Served.{Served}
 use Rattle.omaha_server.specs.declared.setup.Setup.{Setup}
 use Rattle.streams.specs.Streams.{Known}
 use Rattle.streams.specs.Writing.{Breaks}
 use Rattle.omaha_server.proofs.AlongLemmas.{Leads-operated, Leads-worked}
 use Rattle.omaha_server.proofs.ChoiceLemmas.{AllZip-by, chosen}
+use Rattle.omaha_server.proofs.SenderLemmas.{ends-each, logged-all}
 
 -- an item of a list that was mapped
 pub get_or-mapped :
@@ -79,27 +83,45 @@ ended-at {J} {E} comes (job ∷ jobs) (its ∷ worked) (end ∷ ends) zero j a e
 ended-at comes (job ∷ jobs) (its ∷ worked) (end ∷ ends) (suc worker) j a e works same below =
     ended-at comes jobs worked ends worker j a e works.1 (cc same) (omega (arith, below))
 
-module _ {S R P K : Type 0} (edges_of : S → Edges) (terms_of : P → Terms) (slots_of : P → ℕ → Slot) (accepted_of : P → ℕ)
+-- the operator's port was served if there is an operator
+is_served :
+    {P : Type 0} (edges : Edges) (place its : Place) (terms : Option Terms) (before : Overview) (calls : List Call) (after : Overview)
+    (passage : ServedPort P → Passage) (served : Option (Served P)) →
+    IsOperatorsPort its terms →
+    IsOperated edges place terms before calls after (option_map passage (option_map (λ (s : Served P). s.port) served)) →
+    is_some its.operator ≡ is_some served
+is_served edges place its None before calls after passage None port operated = port
+is_served edges place its None before calls after passage (Some served) port operated = absurd operated
+is_served edges place its (Some terms) before calls after passage None port operated = absurd operated
+is_served edges place its (Some terms) before calls after passage (Some served) port operated = port.0
+
+module _ {S R P K : Type 0} (O : Type 0) (edges_of : S → Edges) (terms_of : P → Terms) (slots_of : P → ℕ → Slot) (accepted_of : P → ℕ)
     (first_of : K → ℕ) (kept_of : K → List Record) (setup : Setup S R) (mirrors : List Mirror) where
   -- what passed at the port of a worker
   abbrev passed : Visited P → Passage
-  passed end = passage_of terms_of slots_of accepted_of end.served
+  passed end = passage_of terms_of slots_of accepted_of end.served.port
+
+  -- what it sent to the log
+  abbrev sends : Clients S R P O → Visited P → Type 0
+  sends clients end = HasSent (slots_of end.served.port.port) clients.lines end.served.log
 
   -- what a worker's job comes to
-  abbrev comes : Bool → Clients S R P → List Ask → Visited P → Type 0
+  abbrev comes : Bool → Clients S R P O → List Ask → Visited P → Type 0
   comes single clients asks end =
       IsWorkersPort (edges_of clients.setup.now.system.now) clients.setup.now.place.now (terms_of clients.port) single mirrors
       clients.view (record { sight = end.view; asks = asks }) (passed end)
+      × sends clients end
 
   -- what the operator's job comes to
-  abbrev led : Operating S R P K → List Mirror → List Mirror → Operated P → Type 0
+  abbrev led : Operating S R P K O → List Mirror → List Mirror → Operated P → Type 0
   led own before after end =
       (left : Publication) × (calls : List Call) × (started : ℕ) × (counts : Counts) × (publishes : List Publish)
       × IsOperated (edges_of own.setup.now.system.now) own.setup.now.place.now (terms_left terms_of own.port)
       (overview_at started (with_mirrors before (begun own.press (first_of own.records) (kept_of own.records)))) calls
       (overview (with_mirrors after left) counts publishes end.ending)
-      (option_map (passage_of terms_of slots_of accepted_of) end.served)
+      (option_map (passage_of terms_of slots_of accepted_of) (option_map (λ (served : Served P). served.port) end.served))
       × IfOk end.left (λ receipt. receipt ≡ left.history)
+      × IfSome end.served (λ (served : Served P). HasSent (slots_of served.port.port) own.lines served.log)
 
   -- as many jobs came to their end
   as_many :
@@ -118,14 +140,14 @@ module _ {S R P K : Type 0} (edges_of : S → Edges) (terms_of : P → Terms) (s
         (fresh history) calls (get_or asks worker a) (get_or passages worker p))
 
     -- the job is said of the setup
-    at-setup : (terms : Terms) (clients : Clients S R P) (asks : List Ask) (end : Visited P) →
+    at-setup : (terms : Terms) (clients : Clients S R P O) (asks : List Ask) (end : Visited P) →
         IsClients setup (fresh history) clients → terms_of clients.port ≡ terms → comes single clients asks end →
         IsWorkersPort (edges_of setup.system.now) setup.place.now terms single mirrors (fresh history)
         (record { sight = end.view; asks = asks }) (passed end)
     at-setup terms clients asks end is by came =
         subst (λ t. IsWorkersPort (edges_of setup.system.now) setup.place.now t single mirrors (fresh history) (record { sight = end.view; asks = asks }) (passed end)) by
         (subst (λ (s : Sight). IsWorkersPort (edges_of setup.system.now) setup.place.now (terms_of clients.port) single mirrors s (record { sight = end.view; asks = asks }) (passed end)) is.by
-        (subst (λ (s : Setup S R). IsWorkersPort (edges_of s.system.now) s.place.now (terms_of clients.port) single mirrors clients.view (record { sight = end.view; asks = asks }) (passed end)) is.with came))
+        (subst (λ (s : Setup S R). IsWorkersPort (edges_of s.system.now) s.place.now (terms_of clients.port) single mirrors clients.view (record { sight = end.view; asks = asks }) (passed end)) is.with came.0))
 
     -- the calls by which it did
     called-at :
@@ -156,18 +178,18 @@ module _ {S R P K : Type 0} (edges_of : S → Edges) (terms_of : P → Terms) (s
 
     -- a worker's job that came to its end
     served-at :
-        (jobs : List (Clients S R P)) (asks : List (List Ask)) (results : List (Result (Visited P) (Clients S R P))) (ends : List (Visited P))
+        (jobs : List (Clients S R P O)) (asks : List (List Ask)) (results : List (Result (Visited P) (Clients S R P O))) (ends : List (Visited P))
         (worker : ℕ) (worked : HaveWorked (comes single) jobs asks results) →
-        map (λ (its : List Ask × Result (Visited P) (Clients S R P)). its.1) worked.worked ≡ map Ok ends →
+        map (λ (its : List Ask × Result (Visited P) (Clients S R P O)). its.1) worked.worked ≡ map Ok ends →
         worker < length jobs → length ends ≡ length jobs → All (IsClients setup (fresh history)) jobs →
-        ((d : Terms) → get_or (map terms_of (map (λ (job : Clients S R P). job.port) jobs)) worker d ≡ client_terms setup.place.now capacity worker) →
+        ((d : Terms) → get_or (map terms_of (map (λ (job : Clients S R P O). job.port) jobs)) worker d ≡ client_terms setup.place.now capacity worker) →
         All (λ (end : Visited P). Allows end.view left) ends →
         (calls : List Call)
-        × IsSo asks (map (passage_of terms_of slots_of accepted_of) (map (λ (end : Visited P). end.served) ends)) worker calls
+        × IsSo asks (map (passage_of terms_of slots_of accepted_of) (map (λ (end : Visited P). end.served.port) ends)) worker calls
     served-at [] asks results ends worker worked same below long each by allowed = absurd (omega (arith, below))
     served-at (job ∷ jobs) asks results [] worker worked same below long each by allowed = cc long
     served-at (job ∷ jobs) asks results (end ∷ ends) worker worked same below long each by allowed =
-        let read = λ (its : List Ask × Result (Visited P) (Clients S R P)). its.0 in
+        let read = λ (its : List Ask × Result (Visited P) (Clients S R P O)). its.0 in
         let here = get_or (job ∷ jobs) worker job in
         let there = get_or (end ∷ ends) worker end in
         let own = get_or (map read worked.worked) worker [] in
@@ -177,20 +199,20 @@ module _ {S R P K : Type 0} (edges_of : S → Edges) (terms_of : P → Terms) (s
         let came = ended-at (comes single) (job ∷ jobs) worked.worked (end ∷ ends) worker job [] end worked.each same below in
         let terms = client_terms setup.place.now capacity worker in
         let is_by : terms_of here.port ≡ terms =
-        sym (ap terms_of (get_or-mapped (λ (c : Clients S R P). c.port) (job ∷ jobs) worker job job.port below))
-        ∙ sym (get_or-mapped terms_of (map (λ (c : Clients S R P). c.port) (job ∷ jobs)) worker job.port terms
-        (omega (arith, below, length-map (job ∷ jobs) (λ (c : Clients S R P). c.port)))) ∙ by terms in
-        called-at asks (map (passage_of terms_of slots_of accepted_of) (map (λ (e : Visited P). e.served) (end ∷ ends))) worker own there
+        sym (ap terms_of (get_or-mapped (λ (c : Clients S R P O). c.port) (job ∷ jobs) worker job job.port below))
+        ∙ sym (get_or-mapped terms_of (map (λ (c : Clients S R P O). c.port) (job ∷ jobs)) worker job.port terms
+        (omega (arith, below, length-map (job ∷ jobs) (λ (c : Clients S R P O). c.port)))) ∙ by terms in
+        called-at asks (map (passage_of terms_of slots_of accepted_of) (map (λ (e : Visited P). e.served.port) (end ∷ ends))) worker own there
         (λ a. ap (λ (list : List (List Ask)). get_or list worker a) worked.asked ∙ get_or-else (map read worked.worked) worker a [] in_worked)
-        (λ p. get_or-mapped (passage_of terms_of slots_of accepted_of) (map (λ (e : Visited P). e.served) (end ∷ ends)) worker end.served p
-        (omega (arith, in_ends, length-map (end ∷ ends) (λ (e : Visited P). e.served)))
-        ∙ ap (passage_of terms_of slots_of accepted_of) (get_or-mapped (λ (e : Visited P). e.served) (end ∷ ends) worker end end.served in_ends))
+        (λ p. get_or-mapped (passage_of terms_of slots_of accepted_of) (map (λ (e : Visited P). e.served.port) (end ∷ ends)) worker end.served.port p
+        (omega (arith, in_ends, length-map (end ∷ ends) (λ (e : Visited P). e.served.port)))
+        ∙ ap (passage_of terms_of slots_of accepted_of) (get_or-mapped (λ (e : Visited P). e.served.port) (end ∷ ends) worker end end.served.port in_ends))
         (allowed worker end in_ends)
         (at-setup terms here own there (each worker job below) is_by came)
 
   pub AreTotals-run :
-      {X : Type 0} (jobs : List (Clients S R P)) (own : Operating S R P K) (single : Bool)
-      (ran : Result (Ran (Clients S R P) (Operating S R P K) (Visited P) (Operated P)) X) (ended : Ended (Visited P) (Operated P)) (run : Run P) →
+      {X : Type 0} (jobs : List (Clients S R P O)) (own : Operating S R P K O) (single : Bool)
+      (ran : Result (Ran (Clients S R P O) (Operating S R P K O) (Visited P) (Operated P)) X) (ended : Ended (Visited P) (Operated P)) (run : Run P) →
       AreMirrors mirrors →
       IsManned terms_of setup jobs own → is_single (is_some setup.place.now.operator) setup.place.now.workers ≡ single →
       IfOk ran (λ done. (asks : List (List Ask)) × HaveWorked (comes single) jobs asks done.ends.items × AreTotalsOf done.mirrors.items asks done.totals.items
@@ -205,14 +227,15 @@ module _ {S R P K : Type 0} (edges_of : S → Edges) (terms_of : P → Terms) (s
       let edges = edges_of setup.system.now in
       let place = setup.place.now in
       let passage = passage_of terms_of slots_of accepted_of in
-      let ports = map (λ (end : Visited P). end.served) ended.clients.items in
+      let ports = map (λ (end : Visited P). end.served.port) ended.clients.items in
+      let operator = option_map (λ (served : Served P). served.port) ended.own.served in
       let first = begun own.press (first_of own.records) (kept_of own.records) in
       let (asks, worked, sums, rejected) = works in
-      let same : map (λ (its : List Ask × Result (Visited P) (Clients S R P)). its.1) worked.worked ≡ map Ok ended.clients.items = sym worked.ended ∙ ends in
+      let same : map (λ (its : List Ask × Result (Visited P) (Clients S R P O)). its.1) worked.worked ≡ map Ok ended.clients.items = sym worked.ended ∙ ends in
       let long : length worked.worked ≡ length jobs = AllZip-long (λ job its. WorksAs (comes single) job its.0 its.1) jobs worked.worked worked.each in
       let ended_all : length ended.clients.items ≡ length jobs = as_many worked.worked ended.clients.items same ∙ long in
       let asked : length asks ≡ place.workers = ap length worked.asked ∙ length-map worked.worked (λ its. its.0) ∙ long ∙ manned.many in
-      let (left, calls, started, counts, publishes, there, receipt) = subst (λ (o : Option (Operated P)). HasEnded (λ before after. led own before after) mirrors done.mirrors.items o) ended_own operated in
+      let (left, calls, started, counts, publishes, there, receipt, sent) = subst (λ (o : Option (Operated P)). HasEnded (λ before after. led own before after) mirrors done.mirrors.items o) ended_own operated in
       let behind = overview (with_mirrors done.mirrors.items left) counts publishes ended.own.ending in
       let is : published.left ≡ left.history = subst (λ (r : Result History _). IfOk r (λ history. history ≡ left.history)) published.is receipt in
       let allowed = subst (λ (history : History). All (λ (end : Visited P). Allows end.view history) ended.clients.items) is published.allowed in
@@ -220,12 +243,12 @@ module _ {S R P K : Type 0} (edges_of : S → Edges) (terms_of : P → Terms) (s
       (λ worker below. served-at single own.press left.history manned.capacity jobs asks done.ends.items ended.clients.items worker worked same
       (omega (arith, below, manned.many)) ended_all manned.each (λ d. manned.ports worker d below) allowed) in
       let whole = subst (λ (list : List (ServedPort P)). (ended.own.ending ≡ true)
-      ⊎ HaveAcceptedAll (record { clients = map passage list; operator = option_map passage ended.own.served })) published.clients
+      ⊎ HaveAcceptedAll (record { clients = map passage list; operator = option_map passage operator })) published.clients
       (subst (λ (one : Option (ServedPort P)). (ended.own.ending ≡ true)
       ⊎ HaveAcceptedAll (record { clients = map passage run.ports.clients.items; operator = option_map passage one })) published.operator
       published.whole) in
       let ran : AreTotals edges place (record { edition = own.press; mirrors = mirrors }) first.store
-      (record { clients = map passage ports; operator = option_map passage ended.own.served }) ended.totals.items = record {
+      (record { clients = map passage ports; operator = option_map passage operator }) ended.totals.items = record {
         calls = all.0;
         operator_calls = calls;
         left = behind;
@@ -234,7 +257,7 @@ module _ {S R P K : Type 0} (edges_of : S → Edges) (terms_of : P → Terms) (s
           few = valid.few;
           due = refl;
           operated = Leads-operated (edges_of own.setup.now.system.now) own.setup.now.place.now (terms_left terms_of own.port)
-              (overview_at started (with_mirrors mirrors first)) calls behind (option_map passage ended.own.served) there;
+              (overview_at started (with_mirrors mirrors first)) calls behind (option_map passage operator) there;
           asks = asks;
           worked = AllZip-by (IsWorked mirrors own.press left.history) all.0 asks (all.1 ∙ sym asked)
               (λ worker c a below. (all.2 worker c (omega (arith, below, all.1))).0 a);
@@ -242,7 +265,7 @@ module _ {S R P K : Type 0} (edges_of : S → Edges) (terms_of : P → Terms) (s
           rejected = subst (HadNoRoom mirrors asks) totals rejected;
         };
         many = all.1;
-        ports = length-map ports passage ∙ length-map ended.clients.items (λ (end : Visited P). end.served) ∙ ended_all ∙ manned.many;
+        ports = length-map ports passage ∙ length-map ended.clients.items (λ (end : Visited P). end.served.port) ∙ ended_all ∙ manned.many;
         capacity = manned.capacity;
         served = λ worker c a p below.
             subst (λ (s : Bool). AreServed edges place (client_terms place manned.capacity worker) s mirrors (fresh own.press)
@@ -251,7 +274,7 @@ module _ {S R P K : Type 0} (edges_of : S → Edges) (terms_of : P → Terms) (s
         port = manned.port;
         started = started;
         operated = subst (λ (s : Setup S R). IsOperated (edges_of s.system.now) s.place.now (terms_left terms_of own.port)
-            (overview_at started (with_mirrors mirrors first)) calls behind (option_map passage ended.own.served)) manned.with there;
+            (overview_at started (with_mirrors mirrors first)) calls behind (option_map passage operator)) manned.with there;
         whole = whole;
       } in
       subst (λ (list : List (ServedPort P)). AreTotals edges place (record { edition = own.press; mirrors = mirrors }) first.store
@@ -259,7 +282,39 @@ module _ {S R P K : Type 0} (edges_of : S → Edges) (terms_of : P → Terms) (s
       (subst (λ (one : Option (ServedPort P)). AreTotals edges place (record { edition = own.press; mirrors = mirrors }) first.store
       (record { clients = map passage ports; operator = option_map passage one }) run.totals.items) (sym published.operator)
       (subst (λ (t : List ℕ). AreTotals edges place (record { edition = own.press; mirrors = mirrors }) first.store
-      (record { clients = map passage ports; operator = option_map passage ended.own.served }) t) (sym published.totals) ran))
+      (record { clients = map passage ports; operator = option_map passage operator }) t) (sym published.totals) ran))
+
+  -- the lines of each reply were sent to the log, if there is one, and nothing else
+  pub AreLogged-run :
+      {X : Type 0} (jobs : List (Clients S R P O)) (own : Operating S R P K O) (single : Bool)
+      (ran : Result (Ran (Clients S R P O) (Operating S R P K O) (Visited P) (Operated P)) X) (ended : Ended (Visited P) (Operated P)) (run : Run P) →
+      IsManned terms_of setup jobs own →
+      IfOk ran (λ done. (asks : List (List Ask)) × HaveWorked (comes single) jobs asks done.ends.items × AreTotalsOf done.mirrors.items asks done.totals.items
+      × HadNoRoom mirrors asks done.totals.items) →
+      IfOk ran (λ done. HasEnded (λ before after. led own before after) mirrors done.mirrors.items done.own) →
+      HaveRun ran ended → IsPublished terms_of slots_of accepted_of ended run →
+      AreLogged (is_some setup.place.now.log) (passages_of terms_of slots_of accepted_of run.ports) (map (λ (e : SenderEnd). e.sent) run.ports.log)
+  AreLogged-run jobs own single (Err error) ended run manned works operated have published = absurd have
+  AreLogged-run jobs own single (Ok done) ended run manned works operated (ends, ended_own, totals) published =
+      let passage = passage_of terms_of slots_of accepted_of in
+      let (asks, worked, sums, rejected) = works in
+      let same : map (λ (its : List Ask × Result (Visited P) (Clients S R P O)). its.1) worked.worked ≡ map Ok ended.clients.items = sym worked.ended ∙ ends in
+      let (left, calls, started, counts, publishes, there, receipt, own_sent) = subst (λ (o : Option (Operated P)). HasEnded (λ before after. led own before after) mirrors done.mirrors.items o) ended_own operated in
+      let is : is_some own.lines ≡ (is_some setup.place.now.log && is_some ended.own.served) =
+      manned.own_lined ∙ ap (λ (b : Bool). is_some setup.place.now.log && b)
+      (is_served (edges_of own.setup.now.system.now) own.setup.now.place.now setup.place.now (terms_left terms_of own.port)
+      (overview_at started (with_mirrors mirrors (begun own.press (first_of own.records) (kept_of own.records)))) calls
+      (overview (with_mirrors done.mirrors.items left) counts publishes ended.own.ending) passage ended.own.served manned.port there) in
+      let logged =
+      logged-all passage (λ (job : Clients S R P O). job.lines) (λ (end : Visited P). end.served) (is_some setup.place.now.log) jobs ended.clients.items
+      own.lines ended.own.served manned.lined is
+      (ends-each (comes single) sends (λ job asks end came. came.1) jobs worked.worked ended.clients.items worked.each same) own_sent in
+      subst (λ (list : List (ServedPort P)). AreLogged (is_some setup.place.now.log)
+      (record { clients = map passage list; operator = option_map passage run.ports.operator }) (map (λ (e : SenderEnd). e.sent) run.ports.log)) (sym published.clients)
+      (subst (λ (one : Option (ServedPort P)). AreLogged (is_some setup.place.now.log)
+      (record { clients = map passage (map (λ (end : Visited P). end.served.port) ended.clients.items); operator = option_map passage one }) (map (λ (e : SenderEnd). e.sent) run.ports.log)) (sym published.operator)
+      (subst (λ (list : List SenderEnd). AreLogged (is_some setup.place.now.log)
+      (record { clients = map passage (map (λ (end : Visited P). end.served.port) ended.clients.items); operator = option_map passage (option_map (λ (served : Served P). served.port) ended.own.served) }) (map (λ (e : SenderEnd). e.sent) list)) (sym published.log) logged))
 
 -- there is a port for the operator if there is an operator
 is_operated : {P : Type 0} (place : Place) (terms_of : P → Terms) (port : Option P) →
@@ -269,20 +324,24 @@ is_operated place terms_of (Some port) is = is.0
 
 -- jobs over new ports are those of a setup
 pub IsManned-over :
-    {S R P K : Type 0} (terms_of : P → Terms) (slots_of : P → ℕ → Slot) (accepted_of : P → ℕ) (IsOver : P → Type 0)
-    (setup : Setup S R) (ports : Ports P) (jobs : List (Clients S R P)) (own : Operating S R P K) →
+    {S R P K O : Type 0} (terms_of : P → Terms) (slots_of : P → ℕ → Slot) (accepted_of : P → ℕ) (IsOver : P → Type 0)
+    (setup : Setup S R) (ports : Ports P) (jobs : List (Clients S R P O)) (own : Operating S R P K O) →
     ArePorts terms_of slots_of accepted_of IsOver setup.place.now ports →
-    map (λ (job : Clients S R P). job.port) jobs ≡ ports.clients.items → All (IsClients setup (fresh own.press)) jobs →
+    map (λ (job : Clients S R P O). job.port) jobs ≡ ports.clients.items → All (IsClients setup (fresh own.press)) jobs →
     own.setup.now ≡ setup → has_operator own.port ≡ is_some ports.operator →
-    terms_left terms_of own.port ≡ option_map terms_of ports.operator → IsManned terms_of setup jobs own
-IsManned-over {S} {R} {P} {K} terms_of slots_of accepted_of IsOver setup ports jobs own are same each with operates terms = record {
-  many = sym (length-map jobs (λ (job : Clients S R P). job.port)) ∙ ap length same ∙ are.many;
+    terms_left terms_of own.port ≡ option_map terms_of ports.operator →
+    All (λ (line : Option Sending). is_some line ≡ is_some setup.place.now.log) (map (λ (job : Clients S R P O). job.lines) jobs) →
+    is_some own.lines ≡ (is_some setup.place.now.log && is_some setup.place.now.operator) → IsManned terms_of setup jobs own
+IsManned-over {S} {R} {P} {K} {O} terms_of slots_of accepted_of IsOver setup ports jobs own are same each with operates terms lined own_lined = record {
+  many = sym (length-map jobs (λ (job : Clients S R P O). job.port)) ∙ ap length same ∙ are.many;
   capacity = are.capacity;
   ports = subst (λ (list : List P). AreClientTerms setup.place.now are.capacity (map terms_of list)) (sym same) are.terms;
   each = each;
   with = with;
   operates = operates ∙ sym (is_operated setup.place.now terms_of ports.operator are.port);
   port = subst (IsOperatorsPort setup.place.now) (sym terms) are.port;
+  lined = lined;
+  own_lined = own_lined;
 }
 
 module _ (edges : Edges) (place : Place) (service : Service) (kept : Store) (old between : Known) (passages : Passages) (totals : List ℕ)

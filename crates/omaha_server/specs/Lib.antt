@@ -1,6 +1,7 @@
 pub mod Checking
 pub mod Checks
 pub mod Jobs
+pub mod Logging
 pub mod Notes
 pub mod Opening
 pub mod OperatorPorts

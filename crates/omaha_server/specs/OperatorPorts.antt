@@ -5,13 +5,13 @@ use Rattle.omaha_server.specs.declared.operating.OperatorPort.{OperatorPort}
 use Rattle.omaha_server.specs.declared.operating.OperatorPort.TheVariants as port
 
 -- there is an operator
-abbrev pub has_operator : {P : Type 0} → OperatorPort P → Bool
+abbrev pub has_operator : {P O : Type 0} → OperatorPort P O → Bool
 has_operator port.Missing = false
 has_operator (port.New new) = true
 has_operator port.Served = true
 
 -- what it is going to serve by
-abbrev pub terms_left : {P : Type 0} → (P → Terms) → OperatorPort P → Option Terms
+abbrev pub terms_left : {P O : Type 0} → (P → Terms) → OperatorPort P O → Option Terms
 terms_left terms_of port.Missing = None
 terms_left terms_of (port.New new) = Some (terms_of new)
 terms_left terms_of port.Served = None

@@ -1,5 +1,5 @@
 -- What a server's workers came to, up to its totals.
-use Rattle.std.specs.Prelude.{◌≡◌, ◌⊎◌, ℕ, true, All, List, Some, Result, Ok, Err, map}
+use Rattle.std.specs.Prelude.{◌≡◌, ◌⊎◌, ◌++◌, ℕ, true, All, List, Some, Result, Ok, Err, map, option_map, option_to_list}
 use Rattle.mirror_ledger.specs.declared.run_error.RunError.{RunError}
 use Rattle.mirror_ledger.specs.declared.run_error.RunError.TheVariants as run
 use Rattle.mirror_ledger.specs.declared.running.Ran.{Ran}
@@ -12,6 +12,7 @@ use Rattle.service_desks.specs.States.{Store}
 use Rattle.streams.specs.Streams.{Known}
 use Rattle.streams.specs.Writing.{Breaks}
 use Rattle.systems.specs.Edges.{Edges}
+use Rattle.omaha_server.specs.Logging.{log_at, those_of}
 use Rattle.omaha_server.specs.Passages.{HaveAcceptedAll, Passages, passages_of}
 use Rattle.omaha_server.specs.Serving.{AreTotals, IsOpen, IsReady}
 use Rattle.services.specs.Totals.{totals_string}
@@ -22,6 +23,7 @@ use Rattle.omaha_server.specs.declared.clients.Visited.{Visited}
 use Rattle.omaha_server.specs.declared.operating.Operated.{Operated}
 use Rattle.omaha_server.specs.declared.running.Ended.{Ended}
 use Rattle.omaha_server.specs.declared.running.Run.{Run}
+use Rattle.omaha_server.specs.declared.setup.Served.{Served}
 use Rattle.services.specs.declared.service.Service.{Service}
 
 -- how a server ends whose jobs came to nothing
@@ -36,14 +38,17 @@ HaveRun (Ok ran) ended =
 HaveRun (Err error) ended = ⊥
 
 -- the ports and the totals of jobs that came to these ends, of which each worker's view may enter what the operator left,
--- and each port accepted all its connections, unless the operator asked the server to end
+-- and each port accepted all its connections, unless the operator asked the server to end, and what was sent
+-- to the log
 pub record IsPublished {P : Type 0} (terms_of : P → Terms) (slots_of : P → ℕ → Slot) (accepted_of : P → ℕ)
     (ended : Ended (Visited P) (Operated P)) (run : Run P) : Type 0 where
   pub left : History
   pub is : ended.own.left ≡ Ok left
   pub allowed : All (λ (visited : Visited P). Allows visited.view left) ended.clients.items
-  pub clients : run.ports.clients.items ≡ map (λ (visited : Visited P). visited.served) ended.clients.items
-  pub operator : run.ports.operator ≡ ended.own.served
+  pub clients : run.ports.clients.items ≡ map (λ (visited : Visited P). visited.served.port) ended.clients.items
+  pub operator : run.ports.operator ≡ option_map (λ (served : Served P). served.port) ended.own.served
+  pub log : run.ports.log
+      ≡ those_of (map (λ (visited : Visited P). visited.served.log) ended.clients.items) ++ option_to_list (log_at ended.own.served)
   pub totals : run.totals.items ≡ ended.totals.items
   pub whole : (ended.own.ending ≡ true) ⊎ HaveAcceptedAll (passages_of terms_of slots_of accepted_of run.ports)
 

@@ -1,5 +1,5 @@
 -- What a server does from its start to its end; this project's profile.
-use Rattle.std.specs.Prelude.{◌≡◌, ◌⊎◌, ◌&&◌, ◌<◌, ◌≤◌, ℕ, Bool, true, false, nat_eq, not, List, [], bytes_eq, codes, length, slice_index_or, Option, Some, None, Result, Ok, Err, IfErr, ⊤}
+use Rattle.std.specs.Prelude.{◌≡◌, ◌⊎◌, ◌&&◌, ◌<◌, ◌≤◌, ℕ, Bool, true, false, nat_eq, not, List, [], codes, length, slice_index_or, Option, Some, None, Result, Ok, Err, IfErr, ⊤}
 use Rattle.std.specs.Io.KnownBytes.{Appends}
 use Rattle.std.specs.Option.{is_some}
 use Rattle.catalogue_laws.specs.Histories.{History}
@@ -22,6 +22,7 @@ use Rattle.streams.specs.Writing.{Breaks}
 use Rattle.service_desks.specs.Asking.{GrantsFirst}
 use Rattle.systems.specs.Edges.{Edges}
 use Rattle.omaha_server.specs.Checks.{ChecksCall, IsStopped, LeadsPast, sizes_at}
+use Rattle.omaha_server.specs.Logging.{is_dash}
 use Rattle.omaha_server.specs.Opening.{IsOperatorsPort, client_terms, clients_listener, operator_listener, ready_line}
 use Rattle.omaha_server.specs.Outcomes.{status_word, stop_word}
 use Rattle.omaha_server.specs.Passages.{HaveAcceptedAll, Passages}
@@ -216,10 +217,6 @@ IsLater server.Unpublished = ⊤
 IsLater server.EndedEarly = ⊤
 IsLater server.Write = ⊤
 IsLater server.Memory = ⊤
-
--- the path means the standard error, and no file
-abbrev pub is_dash : List ℕ → Bool
-is_dash path = bytes_eq path (codes "-")
 
 -- the log of that path was opened, or the server ended before
 abbrev pub IsOpened : {A : Type 0} → Edges → List ℕ → Result A ServerError → Type 0

@@ -1,18 +1,19 @@
 // The connections of clients, of which each worker serves its port's.
 
-ghost use Rattle.std.specs.Prelude.{◌≡◌, ◌<◌, ◌∷◌, ◌++◌, All, IfOk, length, map};
+ghost use Rattle.std.specs.Prelude.{◌≡◌, ◌<◌, ◌∷◌, ◌++◌, All, IfOk, if◌then◌else◌, length, map};
+ghost use Rattle.std.specs.Option.{is_some};
 ghost use Rattle.catalogue_laws.specs.Histories.{History};
 ghost use Rattle.publisher.specs.Sights.{fresh};
 ghost use Rattle.omaha_server.specs.Jobs.{IsClients};
+ghost use Rattle.omaha_server.specs.Logging.{those_of};
 ghost use Rattle.omaha_server.specs.Opening.{AreClientTerms, client_terms, clients_listener, portion_at};
 ghost use Rattle.systems.specs.NewPorts.{IsNew};
 
 use crate::new_port::NewPort;
+use crate::new_sender::NewSender;
 use crate::place::Place;
-use crate::ports::ServedPort;
-use crate::setup::{Setup, serve_new};
+use crate::setup::{Served, Setup, serve_new};
 use http_ports::{Port, Terms};
-use log_queues::LineSender;
 use mirror_ledger::{Till, TillJob};
 use publisher::View;
 use service_desks::Worker;
@@ -25,8 +26,8 @@ use worker_threads::portion_of;
 /// What a worker came to.
 #[derive(Drop)]
 pub(crate) struct Visited<P> {
-    /// Its port.
-    pub(crate) served: ServedPort<P>,
+    /// Its port, and its end of the log.
+    pub(crate) served: Served<P>,
     /// Its view, as it is then.
     pub(crate) view: View,
 }
@@ -41,7 +42,7 @@ pub(crate) struct Clients<'s, 'a, S, R, P: Port> {
     /// The worker's view of the published editions.
     pub(crate) view: View,
     /// The worker's end of the log, if there is one.
-    pub(crate) lines: Option<LineSender>,
+    pub(crate) lines: Option<NewSender>,
     /// The worker's number, from 0.
     pub(crate) number: usize,
 }
@@ -50,6 +51,7 @@ pub(crate) struct Clients<'s, 'a, S, R, P: Port> {
 impl<S: System<P>, R: Clock + Wait + AllocGlobal, P: Port + Send + Drop> TillJob
     for Clients<'_, '_, S, R, P> {
     ghost use Rattle.omaha_server.specs.Passages.{passage_of};
+    ghost use Rattle.omaha_server.specs.Logging.{HasSent};
     ghost use Rattle.omaha_server.specs.Serving.{IsWorkersPort};
 
     type End = Visited<P>;
@@ -57,7 +59,8 @@ impl<S: System<P>, R: Clock + Wait + AllocGlobal, P: Port + Send + Drop> TillJob
     ghost comes_to = { λ single mirrors clients asks end.
         IsWorkersPort (S.edges clients.setup.now.system.now) clients.setup.now.place.now (P.terms clients.port) single
         mirrors clients.view (record { sight = end.view; asks = asks })
-        (passage_of P.terms P.slots P.accepted end.served) };
+        (passage_of P.terms P.slots P.accepted end.served.port)
+        × HasSent (P.slots end.served.port.port) clients.lines end.served.log };
 
     fn work<T: Till + Drop>(self, till: T) -> (T, Visited<P>) {
         let Clients {
@@ -67,16 +70,12 @@ impl<S: System<P>, R: Clock + Wait + AllocGlobal, P: Port + Send + Drop> TillJob
             lines,
             number,
         } = self;
-        let mut lines = lines;
         let tables = setup.place.pinned_tables as usize;
         let tally = setup.traffic.tally(number);
         let mut desk = Worker::with_counter(setup.rt, view, till, tables, tally);
-        let served = serve_new(setup, port, &mut desk, &mut lines, Some(tally));
+        let served = serve_new(setup, port, &mut desk, lines, Some(tally));
         setup.ending.leave::<S, P>(setup.system);
         let (left, till) = desk.into_parts();
-        if let Some(lines) = lines {
-            let _ = lines.finish();
-        }
         (till, Visited { served, view: left })
     }
 }
@@ -130,12 +129,13 @@ fn clients_of<'s, 'a, S, R, P: Port + Drop>(
     setup: &'s Setup<'a, S, R>,
     port: P,
     view: View,
-    lines: Option<LineSender>,
+    lines: Option<NewSender>,
     number: usize,
 ) -> Result<Clients<'s, 'a, S, R, P>, AllocError>
     requires { IsNew P.terms P.slots P.accepted P.is_over port }
     ensures clients { IfOk result (IsClients setup.now view) }
     ensures port { IfOk result (λ clients. clients.port ≡ port) }
+    ensures lines { IfOk result (λ clients. clients.lines ≡ lines) }
 {
     let port = NewPort::of(alloc, port)?;
     Ok(Clients {
@@ -147,28 +147,33 @@ fn clients_of<'s, 'a, S, R, P: Port + Drop>(
     })
 }
 
-/// The connections of each worker, which has one of the ports, one of the views, and one of the log's senders if there are
-/// some.
+/// The connections of each worker, which has one of the ports, one of the views, and one of the log's senders, if there is a
+/// log.
 pub(crate) fn all_clients<'s, 'a, S, R, P: Port + Drop>(
     alloc: Global,
     setup: &'s Setup<'a, S, R>,
     ports: Vec<P>,
     views: Vec<View>,
-    senders: Vec<LineSender>,
+    senders: Vec<NewSender>,
 ) -> Result<Vec<Clients<'s, 'a, S, R, P>>, AllocError>
     requires many { length views.items ≡ length ports.items }
+    requires lined { length senders.items ≡ (if is_some setup.now.place.now.log then length ports.items else 0) }
     requires new { All (IsNew P.terms P.slots P.accepted P.is_over) ports.items }
     ensures ports { IfOk result (λ jobs. map (λ job. job.port) jobs.items ≡ ports.items) }
+    ensures lines { IfOk result (λ jobs. those_of (map (λ job. job.lines) jobs.items) ≡ senders.items) }
+    ensures lined { IfOk result (λ jobs. All (λ line. is_some line ≡ is_some setup.now.place.now.log) (map (λ job. job.lines) jobs.items)) }
     ensures jobs { IfOk result (λ jobs. (history : History) → All (λ sight. sight ≡ fresh history) views.items
         → All (IsClients setup.now (fresh history)) jobs.items) }
 {
-    let (mut views, mut senders) = (views, senders);
+    let mut views = views;
+    let mut senders = senders.into_iter();
     let mut jobs = Vec::new(alloc);
     for port in ports {
         let Some(view) = views.pop() else {
             unreachable!()
         };
-        let clients = clients_of(alloc, setup, port, view, senders.pop(), jobs.len())?;
+        let line = senders.next();
+        let clients = clients_of(alloc, setup, port, view, line, jobs.len())?;
         let Ok(()) = jobs.push(clients) else {
             return Err(AllocError);
         };

@@ -4,12 +4,13 @@ ghost use Rattle.std.specs.Prelude.{◌≡◌, All, IfOk, IfSome, length, option
 ghost use Rattle.std.specs.Option.{is_some};
 ghost use Rattle.publisher.specs.Sights.{fresh};
 ghost use Rattle.omaha_server.specs.Jobs.{IsManned};
+ghost use Rattle.omaha_server.specs.Logging.{FitOutlets};
 ghost use Rattle.systems.specs.NewPorts.{IsNew};
 ghost use Rattle.omaha_server.specs.OperatorPorts.{has_operator, terms_left};
 ghost use Rattle.omaha_server.specs.Places.{ArePorts};
 
 use crate::clients::{Clients, all_clients};
-use crate::logging::{Outlets, Writings, open_outlets};
+use crate::logging::{Outlets, Senders, Writings, open_outlets};
 use crate::new_port::NewPort;
 use crate::opening::Ports;
 use crate::operating::{Operating, OperatorPort};
@@ -93,6 +94,7 @@ pub(crate) fn crew_of<
     requires ports { ArePorts P.terms P.slots P.accepted P.is_over setup.now.place.now ports }
     requires many { length views.items ≡ setup.now.place.now.workers }
     requires views { All (λ sight. sight ≡ fresh publishing.press) views.items }
+    requires fit { FitOutlets setup.now.place.now (is_some outlets.errors) (is_some outlets.file) }
     ensures manned { IfOk result (λ crew. IsManned P.terms setup.now crew.jobs.items crew.own) }
     ensures press { IfOk result (λ crew. crew.own.press ≡ publishing.press) }
     ensures records { IfOk result (λ crew. crew.own.records ≡ publishing.records) }
@@ -102,12 +104,14 @@ pub(crate) fn crew_of<
     if bind_traffic(setup, &ports).is_err() {
         return Err(press);
     }
-    let Ok((senders, writings)) = open_outlets(setup, setup.place.workers + 1, outlets) else {
+    let Ok((senders, writings)) = open_outlets(setup, outlets) else {
         return Err(press);
     };
     note_start(setup, &ports, &press, records.first());
-    let mut senders = senders;
-    let lines = senders.pop();
+    let Senders {
+        clients: senders,
+        operator: lines,
+    } = senders;
     let Ports { clients, operator } = ports;
     let Ok(jobs) = all_clients(alloc, setup, clients, views, senders) else {
         return Err(press);

@@ -4,16 +4,18 @@ ghost use Rattle.std.specs.Prelude.{◌≡◌, IfOk};
 ghost use Rattle.systems.specs.NewPorts.{IsNew};
 
 use crate::watches::Sight;
+use access_logs::Places;
 use http_ports::Port;
 use http_talks::Connections;
 use std::alloc::{AllocError, Global};
 use std::marker::Model;
 
-/// A new port, and room for its connections; contracts see the port.
+/// A new port, and room for its connections and for what is logged of them; contracts see the port.
 #[derive(Drop)]
 pub(crate) struct NewPort<P: Port> {
     port: P,
     room: Connections<Sight>,
+    places: Places,
 }
 
 impl<P: Port> Model for NewPort<P> {
@@ -24,26 +26,30 @@ impl<P: Port> Model for NewPort<P> {
 
     ghost view = { λ new. new.port };
 
-    ghost invariant = { λ new. IsNew P.terms P.slots P.accepted P.is_over new.port × (new.room ≡ (P.terms new.port).capacity) };
+    ghost invariant = { λ new. IsNew P.terms P.slots P.accepted P.is_over new.port
+        × (new.room ≡ (P.terms new.port).capacity) × (new.places ≡ (P.terms new.port).capacity) };
 }
 
 impl<P: Port + Drop> NewPort<P> {
-    /// Makes room for the connections of a new port.
+    /// Makes room for the connections of a new port, and for what is logged of them.
     pub(crate) fn of(alloc: Global, port: P) -> Result<NewPort<P>, AllocError>
         requires { IsNew P.terms P.slots P.accepted P.is_over port }
         ensures { IfOk result (λ made. made ≡ port) }
     {
-        let room = Connections::new(alloc, port.terms().capacity)?;
-        Ok(NewPort { port, room })
+        let capacity = port.terms().capacity;
+        let room = Connections::new(alloc, capacity)?;
+        let places = Places::new(alloc, capacity)?;
+        Ok(NewPort { port, room, places })
     }
 
-    /// Gives the port, and the room.
-    pub(crate) fn into_parts(self) -> (P, Connections<Sight>)
+    /// Gives the port, and the room for both.
+    pub(crate) fn into_parts(self) -> (P, Connections<Sight>, Places)
         ensures port { result.0 ≡ self }
         ensures new { IsNew P.terms P.slots P.accepted P.is_over result.0 }
         ensures room { result.1 ≡ (P.terms self).capacity }
+        ensures places { result.2 ≡ (P.terms self).capacity }
     {
-        let NewPort { port, room } = self;
-        (port, room)
+        let NewPort { port, room, places } = self;
+        (port, room, places)
     }
 }

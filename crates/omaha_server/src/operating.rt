@@ -5,6 +5,7 @@ ghost use Rattle.catalogue_laws.specs.Histories.{History};
 ghost use Rattle.profile_toml.specs.Laws.{AreMirrors};
 ghost use Rattle.operator_pages.specs.declared.counts.Counts.{Counts as Numbers};
 ghost use Rattle.operator_pages.specs.declared.publishes.Publish.{Publish};
+ghost use Rattle.omaha_server.specs.Logging.{HasSent};
 ghost use Rattle.omaha_server.specs.Opening.{operator_terms};
 ghost use Rattle.omaha_server.specs.Passages.{passage_of};
 ghost use Rattle.omaha_server.specs.Serving.{AreOperated};
@@ -13,12 +14,11 @@ ghost use Rattle.service_desks.specs.States.{store};
 
 use crate::checking::Checked;
 use crate::new_port::NewPort;
+use crate::new_sender::NewSender;
 use crate::place::Place;
-use crate::ports::ServedPort;
-use crate::setup::{Setup, seconds_now, serve_new};
+use crate::setup::{Served, Setup, seconds_now, serve_new};
 use http_ports::{Port, Terms};
 use kept_records::Records;
-use log_queues::LineSender;
 use mirror_ledger::{BudgetJob, Budgets};
 use operator_pages::{Counts, Publishes};
 use publisher::{Prepared, Press, Receipt};
@@ -68,14 +68,14 @@ pub(crate) struct Operating<'s, 'a, S, R: Threads + Wait + AllocGlobal, P: Port,
     /// Where scripts and raises are kept.
     pub(crate) records: K,
     /// The operator's end of the log, if there is one.
-    pub(crate) lines: Option<LineSender>,
+    pub(crate) lines: Option<NewSender>,
 }
 
 /// What the operator came to.
 #[derive(Drop)]
 pub(crate) struct Operated<P> {
-    /// The port, if there is an operator.
-    pub(crate) served: Option<ServedPort<P>>,
+    /// The port, and its end of the log, if there is an operator.
+    pub(crate) served: Option<Served<P>>,
     /// A receipt of what is published then.
     pub(crate) left: Result<Receipt, AllocError>,
     /// Whether the server was asked to end.
@@ -85,7 +85,7 @@ pub(crate) struct Operated<P> {
 // The operator's port that was served, when it began, and whether the server was asked to end.
 #[derive(Drop)]
 struct Operation<P> {
-    served: ServedPort<P>,
+    served: Served<P>,
     started: u64,
     ending: bool,
 }
@@ -101,8 +101,8 @@ fn serve_desk<
     setup: &Setup<'_, S, R>,
     port: NewPort<P>,
     checked: &mut Checked<'_, '_, '_, '_, '_, '_, S, R, P, B, K>,
-    lines: &mut Option<LineSender>,
-) -> ServedPort<P>
+    lines: Option<NewSender>,
+) -> Served<P>
     requires { checked.old.setup.now ≡ setup.now }
     ensures same_press { checked.new.press.ghost_name ≡ checked.old.press.ghost_name }
     ensures same_budgets { checked.new.budgets.ghost_name ≡ checked.old.budgets.ghost_name }
@@ -111,7 +111,8 @@ fn serve_desk<
     ensures operated { AreOperated (S.edges setup.now.system.now) setup.now.place.now (P.terms port)
         (overview (record { mirrors = B.present checked.old.budgets.now; history = checked.old.press.now; store = store (K.first checked.old.records.now) (K.kept checked.old.records.now) checked.old.due.now }) checked.old.counts checked.old.publishes checked.old.ending)
         (overview (record { mirrors = B.present checked.new.budgets.now; history = checked.new.press.now; store = store (K.first checked.new.records.now) (K.kept checked.new.records.now) checked.new.due.now }) checked.new.counts checked.new.publishes checked.new.ending)
-        (passage_of P.terms P.slots P.accepted result) }
+        (passage_of P.terms P.slots P.accepted result.port) }
+    ensures log { HasSent (P.slots result.port.port) lines result.log }
 {
     serve_new(setup, port, checked, lines, None::<&'static Tally>)
 }
@@ -130,7 +131,7 @@ fn operate<
     records: &mut K,
     due: &mut Option<Prepared>,
     budgets: &mut B,
-    lines: &mut Option<LineSender>,
+    lines: Option<NewSender>,
 ) -> Operation<P>
     requires listed { AreMirrors (B.present budgets.old) }
     requires rising { B.rises budgets.old ≡ true }
@@ -139,7 +140,8 @@ fn operate<
         × AreOperated (S.edges setup.now.system.now) setup.now.place.now (P.terms port)
         (overview_at result.started (record { mirrors = B.present budgets.old; history = press.old; store = store (K.first records.old) (K.kept records.old) due.old }))
         (overview (record { mirrors = B.present budgets.new; history = press.new; store = store (K.first records.new) (K.kept records.new) due.new }) counts publishes result.ending)
-        (passage_of P.terms P.slots P.accepted result.served) }
+        (passage_of P.terms P.slots P.accepted result.served.port) }
+    ensures log { HasSent (P.slots result.served.port.port) lines result.served.log }
 {
     let started = seconds_now(setup.rt);
     let mut checked = Checked {
@@ -169,13 +171,14 @@ impl<
     P: Port + Send + Drop,
     K: Records,
 > BudgetJob for Operating<'_, '_, S, R, P, K> {
-    ghost use Rattle.std.specs.Prelude.{◌≡◌, ℕ, IfOk, List, option_map};
+    ghost use Rattle.std.specs.Prelude.{◌≡◌, ℕ, IfOk, IfSome, List, option_map};
     ghost use Rattle.operator_pages.specs.declared.counts.Counts.{Counts as Numbers};
     ghost use Rattle.operator_pages.specs.declared.publishes.Publish.{Publish};
     ghost use Rattle.omaha_server.specs.Overviews.{overview, overview_at};
     ghost use Rattle.http_desks.specs.Calls.{Call};
     ghost use Rattle.service_desks.specs.States.{Publication};
     ghost use Rattle.omaha_server.specs.OperatorPorts.{has_operator, terms_left};
+    ghost use Rattle.omaha_server.specs.Logging.{HasSent};
     ghost use Rattle.omaha_server.specs.Passages.{passage_of};
     ghost use Rattle.omaha_server.specs.Serving.{IsOperated, begun, with_mirrors};
 
@@ -188,8 +191,9 @@ impl<
         × IsOperated (S.edges old.setup.now.system.now) old.setup.now.place.now (terms_left P.terms old.port)
         (overview_at started (with_mirrors before (begun old.press (K.first old.records) (K.kept old.records)))) calls
         (overview (with_mirrors after left) counts publishes end.ending)
-        (option_map (passage_of P.terms P.slots P.accepted) end.served)
-        × IfOk end.left (λ receipt. receipt ≡ left.history) };
+        (option_map (passage_of P.terms P.slots P.accepted) (option_map (λ served. served.port) end.served))
+        × IfOk end.left (λ receipt. receipt ≡ left.history)
+        × IfSome end.served (λ served. HasSent (P.slots served.port.port) old.lines served.log) };
 
     fn work<B: Budgets>(&mut self, budgets: &mut B) -> Operated<P> {
         match &self.port {
@@ -211,11 +215,8 @@ impl<
             &mut self.records,
             &mut due,
             budgets,
-            &mut self.lines,
+            self.lines.take(),
         );
-        if let Some(lines) = self.lines.take() {
-            let _ = lines.finish();
-        }
         let left = self.press.receipt();
         let Operation { served, ending, .. } = operation;
         Operated {

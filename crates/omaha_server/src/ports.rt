@@ -1,5 +1,8 @@
 // The ports of a server that was served.
 
+use log_queues::EndedSender;
+use traces::Trace;
+
 /// A port that was served to its end.
 #[derive(Drop)]
 pub struct ServedPort<P> {
@@ -16,4 +19,6 @@ pub struct ServedPorts<P> {
     pub clients: Vec<ServedPort<P>>,
     /// The operator's port, if there is an operator.
     pub operator: Option<ServedPort<P>>,
+    /// What was sent to the log for each of them, in this order, if replies are logged; else nothing.
+    pub log: Trace<EndedSender>,
 }

@@ -1,6 +1,7 @@
 // What the jobs of a server came to.
 
-ghost use Rattle.std.specs.Prelude.{◌≡◌, ◌⊎◌, All, Err, IfErr, IfOk, IfSome, IsTrue, Ok, map, option_map};
+ghost use Rattle.std.specs.Prelude.{◌≡◌, ◌⊎◌, ◌∷◌, ◌++◌, [], All, Err, IfErr, IfOk, IfSome, IsTrue, Ok, map, option_map, option_to_list};
+ghost use Rattle.omaha_server.specs.Logging.{log_at, those_of};
 ghost use Rattle.publisher.specs.Sights.{Allows};
 ghost use Rattle.omaha_server.specs.Passages.{HasAcceptedAll, HaveAcceptedAll, passage_of, passages_of};
 ghost use Rattle.omaha_server.specs.Runs.{HaveRun, IsPublished, run_failure};
@@ -10,10 +11,13 @@ use crate::clients::Visited;
 use crate::error::ServerError;
 use crate::operating::Operated;
 use crate::ports::{ServedPort, ServedPorts};
+use crate::setup::Served;
 use http_ports::Port;
+use log_queues::EndedSender;
 use mirror_ledger::{BudgetJob, Ran, RunError, TillJob};
 use publisher::{Receipt, may_enter};
-use std::alloc::Global;
+use std::alloc::{AllocError, Global};
+use traces::Trace;
 
 /// What jobs that all began came to.
 #[derive(Drop)]
@@ -83,27 +87,51 @@ pub(crate) struct Run<P> {
     pub(crate) totals: Vec<u64>,
 }
 
+// Ports and their ends of the log, in the same order.
+#[derive(Drop)]
+struct Kept<P> {
+    ports: Vec<ServedPort<P>>,
+    log: Vec<EndedSender>,
+}
+
+// Keeps one more port.
+fn keep<P: Drop>(kept: &mut Kept<P>, served: Served<P>) -> Result<(), AllocError>
+    ensures port { IfOk result (λ _. kept.new.ports.items ≡ kept.old.ports.items ++ served.port ∷ []) }
+    ensures log { IfOk result (λ _. kept.new.log.items ≡ kept.old.log.items ++ option_to_list served.log) }
+{
+    let Served { port, log } = served;
+    kept.ports.push(port)?;
+    if let Some(ended) = log {
+        kept.log.push(ended)?;
+    }
+    Ok(())
+}
+
 // The ports of workers, if each one's view may enter what is published at the end.
 fn published_ports<P: Drop>(
     alloc: Global,
     clients: Vec<Visited<P>>,
     left: &Receipt,
-) -> Result<Vec<ServedPort<P>>, ServerError>
-    ensures ports { IfOk result (λ ports. ports.items ≡ map (λ visited. visited.served) clients.items) }
+) -> Result<Kept<P>, ServerError>
+    ensures ports { IfOk result (λ kept. kept.ports.items ≡ map (λ visited. visited.served.port) clients.items) }
+    ensures log { IfOk result (λ kept. kept.log.items ≡ those_of (map (λ visited. visited.served.log) clients.items)) }
     ensures allowed { IfOk result (λ _. All (λ visited. Allows visited.view left.now) clients.items) }
     ensures err { IfErr result (λ error. (error ≡ Unpublished) ⊎ (error ≡ Memory)) }
 {
-    let mut ports = Vec::new(alloc);
+    let mut kept = Kept {
+        ports: Vec::new(alloc),
+        log: Vec::new(alloc),
+    };
     for visited in clients {
         let Visited { served, view } = visited;
         if !may_enter(view, left) {
             return Err(ServerError::Unpublished);
         }
-        let Ok(()) = ports.push(served) else {
+        let Ok(()) = keep(&mut kept, served) else {
             return Err(ServerError::Memory);
         };
     }
-    Ok(ports)
+    Ok(kept)
 }
 
 // Whether the ports of workers accepted all their connections.
@@ -135,9 +163,45 @@ fn have_accepted_all<P: Port>(ports: &ServedPorts<P>) -> bool
     have_clients_accepted(ports.clients.as_slice()) && has_operator_accepted(&ports.operator)
 }
 
+// The senders with the operator's, if it had one.
+fn with_operators(
+    senders: Vec<EndedSender>,
+    ended: Option<EndedSender>,
+) -> Result<Vec<EndedSender>, AllocError>
+    ensures { IfOk result (λ all. all.items ≡ senders.items ++ option_to_list ended) }
+{
+    let mut senders = senders;
+    if let Some(ended) = ended {
+        senders.push(ended)?;
+    }
+    Ok(senders)
+}
+
+// What was sent by these.
+fn log_of(senders: &[EndedSender]) -> Trace<EndedSender>
+    ensures { result ≡ senders.now }
+{
+    let mut log = Trace::new();
+    for sender in senders {
+        log.push(sender);
+    }
+    log
+}
+
+// The operator's port and the end of its sender, if there are any.
+fn parts_of<P: Drop>(operator: Option<Served<P>>) -> (Option<ServedPort<P>>, Option<EndedSender>)
+    ensures port { result.0 ≡ option_map (λ served. served.port) operator }
+    ensures log { result.1 ≡ log_at operator }
+{
+    match operator {
+        Some(Served { port, log }) => (Some(port), log),
+        None => (None, None),
+    }
+}
+
 // rule: Run of a service
-/// The ports and the totals of jobs that came to their ends, if each worker's view may enter what the operator left, and
-/// each port accepted all its connections, or the server was asked to end.
+/// The ports and the totals of jobs that came to their ends, and what was sent to the log, if each worker's view may enter
+/// what the operator left, and each port accepted all its connections, or the server was asked to end.
 pub(crate) fn published_run<P: Port + Drop>(
     alloc: Global,
     ended: Ended<Visited<P>, Operated<P>>,
@@ -148,7 +212,7 @@ pub(crate) fn published_run<P: Port + Drop>(
     let Ended {
         clients,
         own: Operated {
-            served: operator,
+            served,
             left,
             ending,
         },
@@ -157,8 +221,19 @@ pub(crate) fn published_run<P: Port + Drop>(
     let Ok(left) = left else {
         return Err(ServerError::Memory);
     };
-    let clients = published_ports(alloc, clients, &left)?;
-    let ports = ServedPorts { clients, operator };
+    let Kept {
+        ports: clients,
+        log,
+    } = published_ports(alloc, clients, &left)?;
+    let (operator, own) = parts_of(served);
+    let Ok(senders) = with_operators(log, own) else {
+        return Err(ServerError::Memory);
+    };
+    let ports = ServedPorts {
+        clients,
+        operator,
+        log: log_of(&senders),
+    };
     if !ending && !have_accepted_all(&ports) {
         return Err(ServerError::EndedEarly);
     }

@@ -1,8 +1,9 @@
 // A service over HTTP, by workers that begin together.
 
-ghost use Rattle.std.specs.Prelude.{◌≡◌, ◌⊎◌, ◌≤◌, All, length, IfErr, IfOk};
+ghost use Rattle.std.specs.Prelude.{◌≡◌, ◌⊎◌, ◌≤◌, All, length, map, IfErr, IfOk};
+ghost use Rattle.std.specs.Option.{is_some};
 ghost use Rattle.publisher.specs.Sights.{fresh};
-ghost use Rattle.omaha_server.specs.Serving.{is_dash};
+ghost use Rattle.omaha_server.specs.Logging.{AreLogged, FitOutlets, is_dash};
 ghost use Rattle.omaha_server.specs.Checking.{IsChecked, IsLackOf};
 ghost use Rattle.omaha_server.specs.Checks.{IsStockedFor};
 ghost use Rattle.omaha_server.specs.Jobs.{IsManned};
@@ -65,6 +66,7 @@ fn open_views<R: Wait>(
 }
 
 // rule: Totals of a server
+// rule: Log of a server
 // Runs the jobs of the workers and of the operator, with a till for each worker, beside a thread for each page that
 // lines are written to. The press still shows what the operator left when the workers' views are compared with it.
 fn run_jobs<
@@ -87,6 +89,8 @@ fn run_jobs<
         (record { edition = own.old.press; mirrors = mirrors })
         (begun own.old.press (K.first own.old.records) (K.kept own.old.records)).store
         (passages_of P.terms P.slots P.accepted run.ports) run.totals.items) }
+    ensures replies { IfOk result (λ run. AreLogged (is_some setup.now.place.now.log)
+        (passages_of P.terms P.slots P.accepted run.ports) (map (λ ended. ended.sent) run.ports.log)) }
     ensures err { IfErr result (λ error. (error ≡ Thread) ⊎ (error ≡ RoomLeft) ⊎ (error ≡ Unpublished) ⊎ (error ≡ EndedEarly) ⊎ (error ≡ Memory)) }
 {
     thread::scope(
@@ -98,6 +102,8 @@ fn run_jobs<
                 (record { edition = own.entry.now.press; mirrors = mirrors })
                 (begun own.entry.now.press (K.first own.entry.now.records) (K.kept own.entry.now.records)).store
                 (passages_of P.terms P.slots P.accepted run.ports) run.totals.items) }
+            ensures replies { IfOk result (λ run. AreLogged (is_some setup.entry.now.place.now.log)
+                (passages_of P.terms P.slots P.accepted run.ports) (map (λ ended. ended.sent) run.ports.log)) }
             ensures err { IfErr result (λ error. (error ≡ Thread) ⊎ (error ≡ RoomLeft) ⊎ (error ≡ Unpublished) ⊎ (error ≡ EndedEarly) ⊎ (error ≡ Memory)) }
         {
             let rt = setup.runtime();
@@ -141,10 +147,13 @@ fn serve_press<
     requires folder { (S.edges setup.now.system.now).folders setup.now.place.now.packages }
     requires many { length views.items ≡ setup.now.place.now.workers }
     requires views { All (λ sight. sight ≡ fresh publishing.press) views.items }
+    requires fit { FitOutlets setup.now.place.now (is_some outlets.errors) (is_some outlets.file) }
     ensures ok { IfOk result (λ run. HasServed (S.edges setup.now.system.now) setup.now.place.now
         (record { edition = publishing.press; mirrors = mirrors })
         (begun publishing.press (K.first publishing.records) (K.kept publishing.records)).store (O.output out.old) (O.output out.new)
         (passages_of P.terms P.slots P.accepted run.ports) run.totals.items) }
+    ensures replies { IfOk result (λ run. AreLogged (is_some setup.now.place.now.log)
+        (passages_of P.terms P.slots P.accepted run.ports) (map (λ ended. ended.sent) run.ports.log)) }
     ensures err { IfErr result (λ error. IsLater error
         × Stops (S.edges setup.now.system.now) setup.now.place.now (O.output out.old) (O.output out.new) error) }
 {
@@ -242,10 +251,13 @@ fn serve_found<
     out: &mut O,
     outlets: Outlets<'_, '_, '_, '_, F>,
 ) -> Result<ServedPorts<P>, ServerError>
-    requires { (S.edges setup.now.system.now).folders setup.now.place.now.packages }
+    requires folder { (S.edges setup.now.system.now).folders setup.now.place.now.packages }
+    requires fit { FitOutlets setup.now.place.now (is_some outlets.errors) (is_some outlets.file) }
     ensures serves { Serves (S.edges setup.now.system.now) setup.now.place.now kept.service
         (begun kept.service.edition (K.first kept.records) (K.kept kept.records)).store (O.output out.old) (O.output out.new)
         (passages_in P.terms P.slots P.accepted result) }
+    ensures replies { IfOk result (λ ports. AreLogged (is_some setup.now.place.now.log)
+        (passages_of P.terms P.slots P.accepted ports) (map (λ ended. ended.sent) ports.log)) }
     ensures later { IfErr result IsLater }
 {
     let (rt, place) = (setup.rt, setup.place);
@@ -282,9 +294,12 @@ fn serve_with<
     errors: Option<&Mutex<Page<'_, F>>>,
     file: Option<&Mutex<Page<'_, File>>>,
 ) -> Result<ServedPorts<P>, ServerError>
+    requires { FitOutlets setup.now.place.now (is_some errors) (is_some file) }
     ensures serves { Serves (S.edges setup.now.system.now) setup.now.place.now kept.service
         (begun kept.service.edition (K.first kept.records) (K.kept kept.records)).store (O.output out.old) (O.output out.new)
         (passages_in P.terms P.slots P.accepted result) }
+    ensures replies { IfOk result (λ ports. AreLogged (is_some setup.now.place.now.log)
+        (passages_of P.terms P.slots P.accepted ports) (map (λ ended. ended.sent) ports.log)) }
     ensures unlogged { IfErr result IsUnlogged }
     ensures stocked { IsStockedFor (S.edges setup.now.system.now) setup.now.place.now kept.service.edition
         (O.output out.old) (O.output out.new) result }
@@ -325,6 +340,8 @@ fn serve_on_errors<
         (begun kept.service.edition (K.first kept.records) (K.kept kept.records)).store (O.output out.old) (O.output out.new)
         (passages_in P.terms P.slots P.accepted result) }
     ensures logged { IsLogged (S.edges setup.now.system.now) setup.now.place.now.log result }
+    ensures replies { IfOk result (λ ports. AreLogged (is_some setup.now.place.now.log)
+        (passages_of P.terms P.slots P.accepted ports) (map (λ ended. ended.sent) ports.log)) }
     ensures stocked { IsStockedFor (S.edges setup.now.system.now) setup.now.place.now kept.service.edition
         (O.output out.old) (O.output out.new) result }
 {
@@ -373,7 +390,8 @@ fn traffic_of(alloc: Global, workers: usize, service: &Service) -> Traffic {
 /// message has begun, and reply to the messages that have; and then the operator's port ends.
 ///
 /// The log gets a line for each reply, as `access_logs` has it, at the end of its file, or on `errors`, which is
-/// otherwise left as it is; workers never mix their lines. A line that can't be written is lost, and holds up no reply.
+/// otherwise left as it is; workers never mix their lines. A line that can't be written is lost, and holds up no reply. What
+/// was sent to the log is given back with the ports.
 ///
 /// If the place has a name, the server says of itself on `errors`, in lines that begin with `omaha: `, what it serves,
 /// which packages are not in the folder, what is published and raised, which package kept a script from being
@@ -400,6 +418,8 @@ pub fn serve<
         (begun kept.service.edition (K.first kept.records) (K.kept kept.records)).store (O.output out.old) (O.output out.new)
         (passages_in P.terms P.slots P.accepted result) }
     ensures logged { IsLogged (S.edges system.now) place.now.log result }
+    ensures replies { IfOk result (λ ports. AreLogged (is_some place.now.log)
+        (passages_of P.terms P.slots P.accepted ports) (map (λ ended. ended.sent) ports.log)) }
     ensures stocked { IsStockedFor (S.edges system.now) place.now kept.service.edition
         (O.output out.old) (O.output out.new) result }
     ensures silent { IsSilent place.now → errors.new ≡ errors.old }

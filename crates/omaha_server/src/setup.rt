@@ -1,21 +1,25 @@
 // What the ports of a server are served with.
 
 ghost use Rattle.std.specs.Prelude.{◌≡◌};
+ghost use Rattle.access_logs.specs.Logs.{IsLogOf};
+ghost use Rattle.rtrb.specs.Ring.{SameProducer};
+ghost use Rattle.omaha_server.specs.Logging.{HasSent};
 ghost use Rattle.omaha_server.specs.Passages.{passage_of};
 ghost use Rattle.omaha_server.specs.Serving.{IsServedPort};
 
 use crate::ending::Ending;
 use crate::new_port::NewPort;
+use crate::new_sender::NewSender;
 use crate::notes::Notes;
 use crate::place::Place;
 use crate::ports::ServedPort;
 use crate::traffic::Traffic;
 use crate::watches::Watches;
-use access_logs::ReplyLog;
+use access_logs::LoggedPort;
 use http_desks::{Clock, Desk};
 use http_devices::SystemClock;
 use http_ports::Port;
-use log_queues::LineSender;
+use log_queues::EndedSender;
 use std::alloc::Global;
 use std::marker::PhantomData;
 use std::sync::{Mutex, Wait};
@@ -52,41 +56,86 @@ pub(crate) fn seconds_now<R: time::Clock>(rt: &R) -> u64 {
     SystemClock::new(rt).now()
 }
 
-// The log of a port, which sends its lines, if there is a sender.
-fn log_of<'l, C: Clock>(
-    alloc: Global,
-    clock: &'l C,
-    lines: &'l mut Option<LineSender>,
-) -> Option<ReplyLog<'l, C, LineSender>> {
-    match lines {
-        Some(lines) => Some(ReplyLog::new(alloc, clock, lines)),
-        None => None,
-    }
+/// What a port came to that was served, and the end of its sender to the log, if it had one.
+#[derive(Drop)]
+pub(crate) struct Served<P> {
+    /// The port.
+    pub(crate) port: ServedPort<P>,
+    /// Its sender.
+    pub(crate) log: Option<EndedSender>,
 }
 
-/// Serves a port by a desk, sends a line for each reply, if they are logged, and counts what is served in a tally, if there
-/// is one.
-pub(crate) fn serve_new<P: Port + Drop, S: System<P>, R: time::Clock + Wait + AllocGlobal, D: Desk>(
+// Serves a port whose replies aren't logged.
+fn serve_unlogged<P: Port + Drop, S: System<P>, R: Wait + AllocGlobal, D: Desk>(
     setup: &Setup<'_, S, R>,
     port: NewPort<P>,
     desk: &mut D,
-    lines: &mut Option<LineSender>,
-    tally: Option<&Tally>,
+    watches: &Watches<'_, '_, '_, S, R, P>,
 ) -> ServedPort<P>
     ensures { IsServedPort (S.edges setup.now.system.now) setup.now.place.now (D.path desk.old) (D.content_type desk.old) D.steps
         desk.old desk.new (P.terms port) (passage_of P.terms P.slots P.accepted result) }
 {
-    let (system, rt, place) = (setup.system, setup.rt, setup.place);
-    let clock = SystemClock::new(rt);
+    let (system, folder) = (setup.system, setup.place.packages.as_str());
+    let (port, room, _) = port.into_parts();
+    let mut port = port;
+    let lost = system.serve_port(folder, &mut port, room, desk, watches);
+    ServedPort { port, lost }
+}
+
+// Serves a port, and sends a line for each reply.
+fn serve_logged<P: Port + Drop, S: System<P>, R: time::Clock + Wait + AllocGlobal, D: Desk>(
+    setup: &Setup<'_, S, R>,
+    port: NewPort<P>,
+    desk: &mut D,
+    lines: NewSender,
+    watches: &Watches<'_, '_, '_, S, R, P>,
+) -> (ServedPort<P>, EndedSender)
+    ensures served { IsServedPort (S.edges setup.now.system.now) setup.now.place.now (D.path desk.old) (D.content_type desk.old) D.steps
+        desk.old desk.new (P.terms port) (passage_of P.terms P.slots P.accepted result.0) }
+    ensures log { IsLogOf (P.slots result.0.port) result.1.sent }
+    ensures ring { SameProducer lines.end result.1.end }
+{
+    let clock = SystemClock::new(setup.rt);
+    let (port, room, places) = port.into_parts();
+    let mut port = LoggedPort::new(setup.rt.alloc(), port, lines.into_lines(), places, &clock);
+    let folder = setup.place.packages.as_str();
+    let lost = setup
+        .system
+        .serve_port(folder, &mut port, room, desk, watches);
+    let (port, ended) = port.into_parts();
+    (ServedPort { port, lost }, ended)
+}
+
+// rule: Log of a server
+/// Serves a port by a desk, sends a line for each reply, if there is a sender to the log, and counts what is served in a
+/// tally, if there is one.
+pub(crate) fn serve_new<P: Port + Drop, S: System<P>, R: time::Clock + Wait + AllocGlobal, D: Desk>(
+    setup: &Setup<'_, S, R>,
+    port: NewPort<P>,
+    desk: &mut D,
+    lines: Option<NewSender>,
+    tally: Option<&Tally>,
+) -> Served<P>
+    ensures served { IsServedPort (S.edges setup.now.system.now) setup.now.place.now (D.path desk.old) (D.content_type desk.old) D.steps
+        desk.old desk.new (P.terms port) (passage_of P.terms P.slots P.accepted result.port) }
+    ensures log { HasSent (P.slots result.port.port) lines result.log }
+{
     let watches = Watches {
-        log: log_of(rt.alloc(), &clock, lines),
         setup,
         tally,
         ports: PhantomData,
     };
-    let (port, room) = port.into_parts();
-    let mut port = port;
-    let folder = place.packages.as_str();
-    let lost = system.serve_port(folder, &mut port, room, desk, &watches);
-    ServedPort { port, lost }
+    match lines {
+        None => Served {
+            port: serve_unlogged(setup, port, desk, &watches),
+            log: None,
+        },
+        Some(lines) => {
+            let (port, ended) = serve_logged(setup, port, desk, lines, &watches);
+            Served {
+                port,
+                log: Some(ended),
+            }
+        }
+    }
 }

@@ -1,12 +1,10 @@
-// What is seen of the connections of a port: their replies, for the log and to be counted, and the downloads that fail.
+// What is seen of the connections of a port: their replies, to be counted, and the downloads that fail.
 
 use crate::notes::note;
 use crate::setup::Setup;
-use access_logs::{CutReply, LastReply, ReplyLog, Seen};
-use http_desks::Clock;
+use access_logs::{CutReply, LastReply};
 use http_heads::{package_name, path_of};
 use http_ports::{Port, WatchEach};
-use log_queues::LineSender;
 use package_files::Mismatch;
 use std::alloc::AllocError;
 use std::marker::PhantomData;
@@ -18,9 +16,7 @@ use tallies::{Cell, Tally, Visit};
 
 /// What is seen of the connections of a port.
 #[derive(Drop)]
-pub(crate) struct Watches<'l, 's, 'a, 't, C: Clock, S, R, P> {
-    /// The log, if there is one.
-    pub(crate) log: Option<ReplyLog<'l, C, LineSender>>,
+pub(crate) struct Watches<'s, 'a, 't, S, R, P> {
     /// What the port is served with.
     pub(crate) setup: &'s Setup<'a, S, R>,
     /// Where what is served is counted, if it is.
@@ -32,8 +28,6 @@ pub(crate) struct Watches<'l, 's, 'a, 't, C: Clock, S, R, P> {
 /// What was seen of a connection.
 #[derive(Drop)]
 pub(crate) struct Sight {
-    // for the log, if there is one
-    logged: Option<Seen>,
     // for the tally, if there is one
     visit: Option<Visit>,
     // its last reply, if failed downloads are reported or counted
@@ -126,11 +120,10 @@ impl Sight {
     }
 }
 
-impl<C: Clock, S: System<P>, R: Wait + AllocGlobal, P: Port> WatchEach
-    for Watches<'_, '_, '_, '_, C, S, R, P> {
+impl<S: System<P>, R: Wait + AllocGlobal, P: Port> WatchEach for Watches<'_, '_, '_, S, R, P> {
     type Seen = Sight;
 
-    fn opens(&self, peer: Option<IpAddr>) -> Sight {
+    fn opens(&self, _peer: Option<IpAddr>) -> Sight {
         let visit = visit_of(self.tally);
         let is_reported = visit.is_some() || self.setup.place.named.is_some();
         let last = if is_reported {
@@ -139,7 +132,6 @@ impl<C: Clock, S: System<P>, R: Wait + AllocGlobal, P: Port> WatchEach
             None
         };
         Sight {
-            logged: self.log.opens(peer),
             visit,
             last,
             may_fetch: false,
@@ -147,17 +139,14 @@ impl<C: Clock, S: System<P>, R: Wait + AllocGlobal, P: Port> WatchEach
     }
 
     fn begins(&self, seen: &mut Sight, waiting: &[u8]) {
-        self.log.begins(&mut seen.logged, waiting);
         seen.begin(self.tally, waiting);
     }
 
     fn writes(&self, seen: &mut Sight, bytes: &[u8]) {
-        self.log.writes(&mut seen.logged, bytes);
         seen.write(self.tally, bytes);
     }
 
     fn finishes(&self, seen: &mut Sight) {
-        self.log.finishes(&mut seen.logged);
         if let (true, Some(last)) = (seen.may_fetch, &seen.last) {
             if let Some(cut) = last.cut() {
                 note_cut::<S, R, P>(self.setup, self.tally, &cut);
@@ -166,10 +155,8 @@ impl<C: Clock, S: System<P>, R: Wait + AllocGlobal, P: Port> WatchEach
     }
 
     fn ends(&self, seen: Sight) {
-        let Sight { logged, visit, .. } = seen;
-        if let (Some(tally), Some(visit)) = (self.tally, visit) {
+        if let (Some(tally), Some(visit)) = (self.tally, seen.visit) {
             visit.end(tally);
         }
-        self.log.ends(logged);
     }
 }

@@ -6,4 +6,5 @@ pub returns-clause-manned : goal.returns-clause-manned
 returns-clause-manned g c =
     IsManned-over g.P.Port.terms g.P.Port.slots g.P.Port.accepted g.P.Port.is_over c.args.setup.now c.args.ports c.in-Ok-all_clients.jobs.items _
     c.requires.ports c.in-Ok-all_clients.ensures.ports (c.in-Ok-all_clients.ensures.jobs c.args.publishing.press c.requires.views) refl
-    c.in-Ok-operator_port.ensures.operates c.in-Ok-operator_port.ensures.terms
+    c.in-Ok-operator_port.ensures.operates c.in-Ok-operator_port.ensures.terms c.in-Ok-all_clients.ensures.lined
+    c.in-Ok.ensures.operator

@@ -10,4 +10,5 @@ returns g c =
         c.serve_desk-served.new.checked.publishes,
         search (operated, c.serve_desk-served.ensures.same_press, c.serve_desk-served.ensures.same_budgets, c.serve_desk-served.ensures.same_records, c.serve_desk-served.ensures.same_due, rules),
       );
+      log = c.serve_desk-served.ensures.log;
     }

@@ -1,8 +1,10 @@
-use Rattle.std.proofs.Common.{◌≡◌, ◌∙◌, [], ◌∷◌, ◌++◌, append_assoc, ap, arith, length, sym}
+use Rattle.std.proofs.Common.{◌≡◌, ◌∙◌, [], ◌∷◌, ◌++◌, append_assoc, ap, arith, length, map, option_to_list, sym}
 use Rattle.std.specs.Vec.Iter.{into_iter_items}
 use Rattle.std.proofs.lemmas.List.{map-append}
 use Rattle.std.proofs.lemmas.List.Elements.{All-push}
 use Rattle.publisher.specs.Sights.{Allows}
+use Rattle.omaha_server.specs.Logging.{those_of}
+use Rattle.omaha_server.proofs.SenderLemmas.{those_of-more}
 use Rattle.omaha_server.proofs.running.published_ports.Goals as goal
 
 pub loop-visited-preserved : goal.loop-visited-preserved
@@ -18,9 +20,12 @@ loop-visited-preserved g c =
           let gone = c.in-Some.ensures.steps.1 in
           omega arith;
       ports =
-          rw c.in-Ok.ensures.items
-          (ap (λ ports. ports ++ one.served ∷ []) at.invariant.ports
-          ∙ sym (map-append (λ visited. visited.served) at.yielded (one ∷ [])));
+          c.in-Ok.ensures.port ∙ ap (λ ports. ports ++ one.served.port ∷ []) at.invariant.ports
+          ∙ sym (map-append (λ visited. visited.served.port) at.yielded (one ∷ []));
+      log =
+          c.in-Ok.ensures.log ∙ ap (λ log. log ++ option_to_list one.served.log) at.invariant.log
+          ∙ sym (those_of-more (map (λ visited. visited.served.log) at.yielded) one.served.log)
+          ∙ sym (ap those_of (map-append (λ visited. visited.served.log) at.yielded (one ∷ [])));
       allowed = All-push (λ visited. Allows visited.view c.args.left.now) at.yielded one at.invariant.allowed
           (c.may_enter.ensures c.if-not-may_enter.false);
     }

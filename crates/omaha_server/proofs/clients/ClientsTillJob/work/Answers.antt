@@ -10,7 +10,7 @@ returns g c = λ single alone none.
     let edges = g.S.System.edges c.args.self.setup.now.system.now in
     let place = c.args.self.setup.now.place.now in
     let terms = g.P.Port.terms c.args.self.port in
-    let passage = passage_of g.P.Port.terms g.P.Port.slots g.P.Port.accepted c.serve_new-served.result in
+    let passage = passage_of g.P.Port.terms g.P.Port.slots g.P.Port.accepted c.serve_new-served.result.port in
     let mirrors = g.T.Till.mirrors in
     let asks = g.T.Till.asks in
     let till = c.with_counter-desk.ensures.till in
@@ -20,8 +20,10 @@ returns g c = λ single alone none.
     let served =
     IsWorkersPort-along (λ d. mirrors d.till) (λ d. d.view) (λ d. asks d.till) (λ d. g.T.Till.alone d.till) _ edges place terms single passage
     first behind (λ old call new stepped. (stepped.0, stepped.1, stepped.2))
-    (λ is. subst g.T.Till.alone (sym till) (alone is)) (ap asks till ∙ none) c.serve_new-served.ensures in
-    subst (λ t. IsWorkersPort edges place terms single (mirrors t) c.args.self.view (record { sight = parts.0; asks = asks parts.1 }) passage) till
-    (subst (λ (s : Sight). IsWorkersPort edges place terms single (mirrors first.till) s (record { sight = parts.0; asks = asks parts.1 }) passage) c.with_counter-desk.ensures.view
-    (subst (λ (s : Sight). IsWorkersPort edges place terms single (mirrors first.till) first.view (record { sight = s; asks = asks parts.1 }) passage) (sym c.into_parts-left.ensures.view)
-    (subst (λ t. IsWorkersPort edges place terms single (mirrors first.till) first.view (record { sight = behind.view; asks = asks t }) passage) (sym c.into_parts-left.ensures.till) served)))
+    (λ is. subst g.T.Till.alone (sym till) (alone is)) (ap asks till ∙ none) c.serve_new-served.ensures.served in (
+      subst (λ t. IsWorkersPort edges place terms single (mirrors t) c.args.self.view (record { sight = parts.0; asks = asks parts.1 }) passage) till
+          (subst (λ (s : Sight). IsWorkersPort edges place terms single (mirrors first.till) s (record { sight = parts.0; asks = asks parts.1 }) passage) c.with_counter-desk.ensures.view
+          (subst (λ (s : Sight). IsWorkersPort edges place terms single (mirrors first.till) first.view (record { sight = s; asks = asks parts.1 }) passage) (sym c.into_parts-left.ensures.view)
+          (subst (λ t. IsWorkersPort edges place terms single (mirrors first.till) first.view (record { sight = behind.view; asks = asks t }) passage) (sym c.into_parts-left.ensures.till) served))),
+      c.serve_new-served.ensures.log,
+    )

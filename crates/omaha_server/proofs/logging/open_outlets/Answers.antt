@@ -1,0 +1,25 @@
+use Rattle.std.proofs.Common.{◌∙◌, ◌+◌, ◌&&◌, ℕ, Bool, ap, if◌then◌else◌, is_some, length, not}
+use Rattle.http_ports.specs.Speech.{one_if}
+use Rattle.omaha_server.proofs.OutletLemmas.{chosen_many, clients_many}
+use Rattle.omaha_server.proofs.logging.open_outlets.Goals as goal
+
+pub returns-clause-many : goal.returns-clause-many
+returns-clause-many g c =
+    let place = c.args.setup.now.place.now in
+    let ports = place.workers + one_if (is_some place.operator) in
+    let on = c.is_on_errors-is_here.result in
+    clients_many (is_some place.log) (is_some place.operator) place.workers c.choose-senders.result.items
+    c.part_last-clients.result.0.items c.part_last-clients.result.1 c.part_last-clients.ensures.all
+    (c.part_last-clients.ensures.parted ∙ c.is_operator_logged.ensures)
+    (ap length c.choose-senders.ensures
+    ∙ chosen_many (is_some place.log) c.args.outlets.file c.args.outlets.errors on (is_some place.named) ports
+    c.in_ok-filed.filed.items c.in_ok-others.others.items c.part_last-others.result.0.items c.part_last-others.result.1
+    (c.is_on_errors-is_here.ensures
+    ∙ ap (λ (b : Bool). is_some place.log && not b) (c.is_some.ensures ∙ c.in_ok-filed.ensures.writing))
+    c.requires.logged c.requires.written
+    (c.in_ok-filed.ensures.many ∙ ap (λ (n : ℕ). if is_some c.args.outlets.file then n else 0) c.count_ports.ensures)
+    (c.in_ok-others.ensures.many
+    ∙ ap (λ (n : ℕ). if is_some c.args.outlets.errors then n else 0)
+    (c.with_one-count.ensures ∙ ap (λ (n : ℕ). n + one_if c.is_some-2.result) c.count_ports-2.ensures
+    ∙ ap (λ (b : Bool). (if on then ports else 0) + one_if b) c.is_some-2.ensures))
+    c.part_last-others.ensures.all (c.part_last-others.ensures.parted ∙ c.is_some-3.ensures))

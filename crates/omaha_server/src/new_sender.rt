@@ -1,0 +1,43 @@
+// A sender to the log before its port is served.
+
+ghost use Rattle.std.specs.Prelude.{◌≡◌};
+ghost use Rattle.access_logs.specs.Logs.{IsFresh};
+
+use log_queues::LineSender;
+use std::marker::Model;
+
+/// A sender to the log that has sent nothing; contracts see the sender.
+#[derive(Drop)]
+pub(crate) struct NewSender {
+    lines: LineSender,
+}
+
+impl Model for NewSender {
+    ghost use Rattle.access_logs.specs.Logs.{IsFresh};
+    ghost use Rattle.log_queues.specs.Queues.{Sending};
+
+    ghost Value = { Sending };
+
+    ghost view = { λ new. new.lines };
+
+    ghost invariant = { λ new. IsFresh new.lines };
+}
+
+impl NewSender {
+    /// Takes a sender that has sent nothing.
+    pub(crate) fn of(lines: LineSender) -> NewSender
+        requires { IsFresh lines }
+        ensures { result ≡ lines }
+    {
+        NewSender { lines }
+    }
+
+    /// Gives the sender.
+    pub(crate) fn into_lines(self) -> LineSender
+        ensures lines { result ≡ self }
+        ensures fresh { IsFresh result }
+    {
+        let NewSender { lines } = self;
+        lines
+    }
+}
