@@ -43,13 +43,13 @@ plus_zero n = omega arith
 
 -- an entry says its number and its record
 entry_of-number : (m n : ℕ) (a b : Record) → entry_of m a ≡ entry_of n b → m ≡ n
-entry_of-number m n a b is = same_number m n (ap (λ row. column row 0) is)
+entry_of-number m n a b is = same_number m n (ap (λ cells. column cells 0) is)
 
 entry_of-record : (m n : ℕ) (a b : Record) → entry_of m a ≡ entry_of n b → a ≡ b
 entry_of-record m n a b is =
     same_record a b
-    (same_kind a.kind b.kind (same_number (number_of a.kind) (number_of b.kind) (ap (λ row. column row 1) is)))
-    (same_bytes a.bytes b.bytes (ap (λ row. column row 2) is))
+    (same_kind a.kind b.kind (same_number (number_of a.kind) (number_of b.kind) (ap (λ cells. column cells 1) is)))
+    (same_bytes a.bytes b.bytes (ap (λ cells. column cells 2) is))
 
 -- the row is one of these records, with its number
 abbrev IsAmong : ℕ → List Record → Row → Type 0

@@ -56,7 +56,7 @@ Holds-nil trees first none = subst (λ rows. IsPermutation (map shown_row rows) 
 
 -- the number of a row is below this one
 abbrev pub IsBelow : ℕ → Row → Type 0
-IsBelow number row = (at : ℕ) × (column row 0 ≡ Int (pos at)) × (at < number)
+IsBelow number cells = (at : ℕ) × (column cells 0 ≡ Int (pos at)) × (at < number)
 
 entries_below : (first : ℕ) (kept : List Record) (number : ℕ) → first + length kept ≤ number
     → AllByRecursion (IsBelow number) (entries_from first kept)

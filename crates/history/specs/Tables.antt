@@ -84,4 +84,4 @@ stored_row number kept =
 
 -- the number, the kind and the bytes of a stored row
 abbrev pub shown_row : Row → Row
-shown_row row = column row 0 ∷ column row 2 ∷ column row 3 ∷ []
+shown_row cells = column cells 0 ∷ column cells 2 ∷ column cells 3 ∷ []
