@@ -1,5 +1,6 @@
 -- A log that was written from its beginning.
-use Rattle.std.proofs.Common.{◌≡◌, ◌∙◌, ◌++◌, ℕ, zero, suc, Bool, false, List, [], ◌∷◌, All, length, map, refl, sym, subst, ap, arith}
+use Rattle.std.proofs.Common.{◌≡◌, ◌∙◌, ◌++◌, ◌-◌, ℕ, zero, suc, Bool, false, List, [], ◌∷◌, All, length, map, refl, sym, subst, ap, arith}
+use Rattle.std.proofs.lemmas.List.{length-append}
 use Rattle.std.proofs.lemmas.List.Elements.{All-head, All-tail}
 use Rattle.streams.specs.Streams.{Known}
 use Rattle.log_queues.specs.Queues.{HasReceived, HaveLogged, HaveWritten, IsWhole, WrittenIn}
@@ -36,18 +37,20 @@ nothing-of (one ∷ nothings) (other ∷ others) all many =
     ∙ ap (λ (xss : List (List ℕ)). [] ∷ xss)
     (nothing-of nothings others (All-tail (λ (xs : List ℕ). xs ≡ []) one nothings all) (omega (arith, many)))
 
--- what was logged from the beginning, and then written in a last round, is whole
+-- what was logged from the beginning of so many rings, and then written in a last round, is whole
 pub IsWhole-last :
-    (befores middles afters sents : List (List ℕ)) (old between new : Known) (was was_between is : Bool) →
-    All (λ (xs : List ℕ). xs ≡ []) befores → was ≡ false → HaveLogged befores middles old between was was_between →
-    HaveWritten middles afters between new was_between is → HasReceived sents afters → IsWhole sents old new
-IsWhole-last befores middles afters sents old between new was was_between is unread whole logged written (others, all) =
+    (befores middles afters sents : List (List ℕ)) (old between new : Known) (was was_between is : Bool) (total : ℕ) →
+    length befores ≡ total → All (λ (xs : List ℕ). xs ≡ []) befores → was ≡ false →
+    HaveLogged befores middles old between was was_between → HaveWritten middles afters between new was_between is →
+    HasReceived sents afters → IsWhole (total - length sents) sents old new
+IsWhole-last befores middles afters sents old between new was was_between is total rings unread whole logged written (others, all) =
     let last = HaveLogged-next befores middles afters old between new was was_between is logged written in
     let many : length befores ≡ length (sents ++ others) =
     WrittenIn-length last.0 befores afters old new was is last.1 ∙ ap length all
     in (
       others,
       is,
+      omega (arith, rings, many, length-append sents others),
       subst (λ (those : List (List ℕ)). HaveLogged those (sents ++ others) old new false is)
           (nothing-of befores (sents ++ others) unread many)
           (subst (λ (those : List (List ℕ)). HaveLogged befores those old new false is) all

@@ -1,3 +1,4 @@
 pub mod Facts
 pub mod Queues
+pub mod Pages
 pub mod Laws

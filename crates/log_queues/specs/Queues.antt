@@ -1,5 +1,5 @@
 -- The lines that are sent to a log's writer, and what it writes; this project's profile.
-use Rattle.std.specs.Prelude.{◌≡◌, ◌+◌, ◌-◌, ◌^◌, ℕ, zero, suc, Bool, true, false, List, [], ◌∷◌, ◌++◌, codes, decimal, map, min}
+use Rattle.std.specs.Prelude.{◌≡◌, ◌+◌, ◌-◌, ◌^◌, ℕ, zero, suc, Bool, true, false, List, [], ◌∷◌, ◌++◌, codes, decimal, length, map, min}
 use Rattle.std.specs.List.{AllZip}
 use Rattle.std.specs.Io.KnownBytes.{Appends}
 use Rattle.streams.specs.Streams.{Known}
@@ -123,8 +123,8 @@ HaveLogged befores afters old new was_cut is_cut = (rounds : ℕ) × WrittenIn r
 
 -- rule: Whole log
 -- after a whole line a log has what was received of its senders, in rounds, and nothing else; and all that the first of
--- them have sent was received
-abbrev pub IsWhole : List (List ℕ) → Known → Known → Type 0
-IsWhole sents old new =
-    (others : List (List ℕ)) × (is_cut : Bool)
+-- them have sent was received, beside which there are so many others
+abbrev pub IsWhole : ℕ → List (List ℕ) → Known → Known → Type 0
+IsWhole many sents old new =
+    (others : List (List ℕ)) × (is_cut : Bool) × (length others ≡ many)
     × HaveLogged (map (λ (_ : List ℕ). []) (sents ++ others)) (sents ++ others) old new false is_cut

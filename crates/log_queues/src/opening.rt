@@ -89,6 +89,7 @@ pub fn open_log(alloc: Global, count: usize, bytes: usize) -> Result<Log, AllocE
     ensures fresh { IfOk result (λ log. All (IsOpened bytes) log.senders.items) }
     ensures ends { IfOk result (λ log. AllZip (λ sender end. AreEnds sender.end end) log.senders.items log.writer.ends) }
     ensures unread { IfOk result (λ log. All (λ received. received ≡ []) log.writer.received) }
+    ensures receives { IfOk result (λ log. length log.writer.received ≡ count) }
 {
     let signal = Arc::new(alloc, Signal::new())?;
     let (senders, rings) = open_rings(alloc, count, bytes, &signal)?;

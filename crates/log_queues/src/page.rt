@@ -1,6 +1,7 @@
-ghost use Rattle.std.specs.Prelude.{◌≡◌, ◌++◌, IsFalse, OnErr, OnOk};
+ghost use Rattle.std.specs.Prelude.{◌≡◌, ◌++◌, OnErr, OnOk};
 ghost use Rattle.std.specs.Io.KnownBytes.{Appends};
 ghost use Rattle.streams.specs.Writing.{Breaks};
+ghost use Rattle.log_queues.specs.Pages.{IsUncut};
 ghost use Rattle.log_queues.specs.Queues.{IsPut, end_of};
 
 use std::io;
@@ -18,7 +19,7 @@ impl<'a, W: WriteWhole> Page<'a, W> {
     pub fn new(out: &'a mut W) -> Page<'a, W>
         ensures out { result.out.ghost_name ≡ out.entry.ghost_name }
         ensures same { W.output result.out.now ≡ W.output out.old }
-        ensures whole { IsFalse result.is_cut }
+        ensures whole { IsUncut result }
     {
         Page { out, is_cut: false }
     }

@@ -1,6 +1,6 @@
 // A thread of its own for a log's writer.
 
-ghost use Rattle.std.specs.Prelude.{◌≡◌, map};
+ghost use Rattle.std.specs.Prelude.{◌≡◌, ◌-◌, length, map};
 ghost use Rattle.log_queues.specs.Queues.{HaveEnded, IsWhole};
 
 use crate::page::Page;
@@ -64,8 +64,8 @@ impl<'s, 'p, R: Wait, W: WriteWhole + Send> WriterThread<'s, 'p, R, W> {
     /// They are in the order in which they were opened. It waits for the thread's end.
     pub fn finish<T: Threads>(self, rt: &T, ended: Vec<EndedSender>) -> Page<'p, W>
         requires ended { HaveEnded self.began.value.opened.value.items ended.items }
-        ensures whole { IsWhole (map (λ sender. sender.sent) ended.items) (W.output self.entry.began.value.page.out.now)
-            (W.output result.out.now) }
+        ensures whole { IsWhole (length self.entry.began.value.opened.value.items - length ended.items)
+            (map (λ sender. sender.sent) ended.items) (W.output self.entry.began.value.page.out.now) (W.output result.out.now) }
         ensures out { result.out.ghost_name ≡ self.entry.began.value.page.out.ghost_name }
     {
         let WriterThread {

@@ -3,6 +3,7 @@
 ghost use Rattle.std.specs.Prelude.{◌≡◌, [], All, IfOk, IfSome, IsFalse, length};
 ghost use Rattle.std.specs.List.{AllZip};
 ghost use Rattle.log_queues.specs.Facts.{AllEnds-prop};
+ghost use Rattle.log_queues.specs.Pages.{IsUncut};
 ghost use Rattle.log_queues.specs.Queues.{AreEnds, IsOpened};
 
 use crate::opening::{Log, open_log};
@@ -29,6 +30,8 @@ pub struct Writing<'p, W: WriteWhole> {
     pub opened: Snapshot<Vec<LineSender>>,
     // the writer has the other ends of their rings
     ghost ends: { AllZip (λ sender end. AreEnds sender.end end) opened.value.items writer.ends } by { AllEnds-prop opened.value.items writer.ends },
+    // it has no others
+    ghost many: { length writer.received ≡ length opened.value.items },
     // nothing has come out of them
     ghost unread: { All (λ received. received ≡ []) writer.received },
     // the page ends in a whole line, or has none
@@ -43,7 +46,7 @@ impl<'p, W: WriteWhole + Send> Writing<'p, W> {
         bytes: usize,
         page: Page<'p, W>,
     ) -> Result<(Vec<LineSender>, Writing<'p, W>), AllocError>
-        requires whole { IsFalse page.is_cut }
+        requires whole { IsUncut page }
         ensures many { IfOk result (λ made. length made.0.items ≡ count) }
         ensures fresh { IfOk result (λ made. All (IsOpened bytes) made.0.items) }
         ensures opened { IfOk result (λ made. made.1.opened.value ≡ made.0) }

@@ -1,7 +1,8 @@
-use Rattle.std.proofs.Common.{map, subst}
+use Rattle.std.proofs.Common.{◌-◌, length, map, subst}
+use Rattle.std.proofs.lemmas.List.{length-map}
 use Rattle.std.specs.List.{AllZip}
 use Rattle.rtrb.specs.Ring.{SameConsumer}
-use Rattle.log_queues.specs.Queues.{HaveLogged}
+use Rattle.log_queues.specs.Queues.{HaveLogged, IsWhole}
 use Rattle.log_queues.proofs.RingLemmas.{ends-stay}
 use Rattle.log_queues.proofs.WholeLemmas.{IsWhole-last}
 use Rattle.log_queues.proofs.thread.WriterThread.finish.Goals as goal
@@ -35,7 +36,10 @@ returns-clause-whole g c =
     (λ page. HaveLogged task.writer.received joined.0.received (output page.out.now) (output joined.1.out.now) page.is_cut
     joined.1.is_cut) c.args.self.page c.join-writer.ensures.2)
     in
-    IsWhole-last began.writer.received joined.0.received last.self.received
-    (map (λ sender. sender.sent) c.args.ended.items) (output began.page.out.now) (output joined.1.out.now)
-    (output last.page.out.now) began.page.is_cut joined.1.is_cut last.page.is_cut began.unread began.whole logged
-    c.write_rest.ensures.written c.write_rest.ensures.all
+    let total = length began.opened.value.items in
+    let sents = map (λ sender. sender.sent) c.args.ended.items in
+    subst (λ many. IsWhole (total - many) sents (output began.page.out.now) (output last.page.out.now))
+    (length-map c.args.ended.items (λ sender. sender.sent))
+    (IsWhole-last began.writer.received joined.0.received last.self.received sents (output began.page.out.now)
+    (output joined.1.out.now) (output last.page.out.now) began.page.is_cut joined.1.is_cut last.page.is_cut total began.many
+    began.unread began.whole logged c.write_rest.ensures.written c.write_rest.ensures.all)
