@@ -1,6 +1,6 @@
 // Lines of a log that are sent to its writer.
 
-ghost use Rattle.std.specs.Prelude.{◌≡◌, ◌∷◌, [], IfSome, map};
+ghost use Rattle.std.specs.Prelude.{◌≡◌, ◌-◌, ◌∷◌, [], IfSome, length, map};
 ghost use Rattle.rtrb.specs.Ring.{SameProducer};
 ghost use Rattle.log_queues.specs.Queues.{HaveEnded, IsWhole};
 
@@ -215,8 +215,8 @@ fn write_beside<R: Threads + Wait + Sync, W: WriteWhole + Send>(
     rows: (&str, &str),
     out: &mut W,
 ) -> Option<Snapshot<Vec<EndedSender>>>
-    ensures whole { IfSome result (λ ended. IsWhole (map (λ sender. sender.sent) ended.value.items) (W.output out.old)
-        (W.output out.new)) }
+    ensures whole { IfSome result (λ ended. IsWhole (2 - length ended.value.items) (map (λ sender. sender.sent) ended.value.items)
+        (W.output out.old) (W.output out.new)) }
 {
     let (senders, writing) = Writing::open(alloc, 2, 64, Page::new(out)).ok()?;
     let (page, ended) = thread::scope(
@@ -224,8 +224,8 @@ fn write_beside<R: Threads + Wait + Sync, W: WriteWhole + Send>(
         rt,
         |scope| -> Option<(Page<'_, W>, Snapshot<Vec<EndedSender>>)>
             requires { writing.opened.value ≡ senders }
-            ensures whole { IfSome result (λ made. IsWhole (map (λ sender. sender.sent) made.1.value.items)
-                (W.output writing.entry.page.out.now) (W.output made.0.out.now)) }
+            ensures whole { IfSome result (λ made. IsWhole (length writing.entry.opened.value.items - length made.1.value.items)
+                (map (λ sender. sender.sent) made.1.value.items) (W.output writing.entry.page.out.now) (W.output made.0.out.now)) }
             ensures page { IfSome result (λ made. made.0.out.ghost_name ≡ writing.entry.page.out.ghost_name) }
         {
             let thread = writing.start(scope, rt)?;

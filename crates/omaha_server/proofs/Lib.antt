@@ -4,6 +4,7 @@ mod ChoiceLemmas
 mod ClientLemmas
 mod CountLemmas
 mod OutletLemmas
+mod PageLemmas
 mod RunLemmas
 mod SenderLemmas
 mod ShowLemmas

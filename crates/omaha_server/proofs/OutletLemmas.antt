@@ -4,7 +4,7 @@ use Rattle.std.proofs.lemmas.List.{length-append}
 use Rattle.http_ports.specs.Speech.{one_if}
 use Rattle.log_queues.specs.Queues.{Sending}
 
-length-option : {A : Type 0} (option : Option A) → length (option_to_list option) ≡ one_if (is_some option)
+pub length-option : {A : Type 0} (option : Option A) → length (option_to_list option) ≡ one_if (is_some option)
 length-option None = refl
 length-option (Some a) = refl
 

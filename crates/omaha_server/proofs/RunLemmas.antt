@@ -23,7 +23,7 @@ use Rattle.service_desks.specs.States.{Publication, Store}
 use Rattle.systems.specs.Edges.{Edges}
 use Rattle.log_queues.specs.Queues.{Ended as SenderEnd, Sending}
 use Rattle.omaha_server.specs.Jobs.{IsClients, IsManned}
-use Rattle.omaha_server.specs.Logging.{AreLogged, HasSent}
+use Rattle.omaha_server.specs.Logging.{AreLogged, HasSent, senders_of}
 use Rattle.omaha_server.specs.Opening.{AreClientTerms, IsOperatorsPort, client_terms}
 use Rattle.omaha_server.specs.OperatorPorts.{has_operator, terms_left}
 use Rattle.omaha_server.specs.Passages.{HaveAcceptedAll, Passages, passage_of, passages_of}
@@ -52,7 +52,7 @@ use Rattle.streams.specs.Streams.{Known}
 use Rattle.streams.specs.Writing.{Breaks}
 use Rattle.omaha_server.proofs.AlongLemmas.{Leads-operated, Leads-worked}
 use Rattle.omaha_server.proofs.ChoiceLemmas.{AllZip-by, chosen}
-use Rattle.omaha_server.proofs.SenderLemmas.{ends-each, logged-all}
+use Rattle.omaha_server.proofs.SenderLemmas.{AreSame, ended-all, ends-each, logged-all}
 
 -- an item of a list that was mapped
 pub get_or-mapped :
@@ -284,7 +284,7 @@ module _ {S R P K : Type 0} (O : Type 0) (edges_of : S → Edges) (terms_of : P 
       (subst (λ (t : List ℕ). AreTotals edges place (record { edition = own.press; mirrors = mirrors }) first.store
       (record { clients = map passage ports; operator = option_map passage operator }) t) (sym published.totals) ran))
 
-  -- the lines of each reply were sent to the log, if there is one, and nothing else
+  -- the lines of each reply were sent to the log, if there is one, and nothing else, by the senders that the ports were given
   pub AreLogged-run :
       {X : Type 0} (jobs : List (Clients S R P O)) (own : Operating S R P K O) (single : Bool)
       (ran : Result (Ran (Clients S R P O) (Operating S R P K O) (Visited P) (Operated P)) X) (ended : Ended (Visited P) (Operated P)) (run : Run P) →
@@ -294,6 +294,7 @@ module _ {S R P K : Type 0} (O : Type 0) (edges_of : S → Edges) (terms_of : P 
       IfOk ran (λ done. HasEnded (λ before after. led own before after) mirrors done.mirrors.items done.own) →
       HaveRun ran ended → IsPublished terms_of slots_of accepted_of ended run →
       AreLogged (is_some setup.place.now.log) (passages_of terms_of slots_of accepted_of run.ports) (map (λ (e : SenderEnd). e.sent) run.ports.log)
+      × AreSame (senders_of (map (λ (job : Clients S R P O). job.lines) jobs) own.lines) run.ports.log
   AreLogged-run jobs own single (Err error) ended run manned works operated have published = absurd have
   AreLogged-run jobs own single (Ok done) ended run manned works operated (ends, ended_own, totals) published =
       let passage = passage_of terms_of slots_of accepted_of in
@@ -305,16 +306,22 @@ module _ {S R P K : Type 0} (O : Type 0) (edges_of : S → Edges) (terms_of : P 
       (is_served (edges_of own.setup.now.system.now) own.setup.now.place.now setup.place.now (terms_left terms_of own.port)
       (overview_at started (with_mirrors mirrors (begun own.press (first_of own.records) (kept_of own.records)))) calls
       (overview (with_mirrors done.mirrors.items left) counts publishes ended.own.ending) passage ended.own.served manned.port there) in
+      let sent =
+      ends-each (comes single) sends (λ job asks end came. came.1) jobs worked.worked ended.clients.items worked.each same in
+      let lines = λ (job : Clients S R P O). job.lines in
+      let served = λ (end : Visited P). end.served in
       let logged =
-      logged-all passage (λ (job : Clients S R P O). job.lines) (λ (end : Visited P). end.served) (is_some setup.place.now.log) jobs ended.clients.items
-      own.lines ended.own.served manned.lined is
-      (ends-each (comes single) sends (λ job asks end came. came.1) jobs worked.worked ended.clients.items worked.each same) own_sent in
-      subst (λ (list : List (ServedPort P)). AreLogged (is_some setup.place.now.log)
-      (record { clients = map passage list; operator = option_map passage run.ports.operator }) (map (λ (e : SenderEnd). e.sent) run.ports.log)) (sym published.clients)
-      (subst (λ (one : Option (ServedPort P)). AreLogged (is_some setup.place.now.log)
-      (record { clients = map passage (map (λ (end : Visited P). end.served.port) ended.clients.items); operator = option_map passage one }) (map (λ (e : SenderEnd). e.sent) run.ports.log)) (sym published.operator)
-      (subst (λ (list : List SenderEnd). AreLogged (is_some setup.place.now.log)
-      (record { clients = map passage (map (λ (end : Visited P). end.served.port) ended.clients.items); operator = option_map passage (option_map (λ (served : Served P). served.port) ended.own.served) }) (map (λ (e : SenderEnd). e.sent) list)) (sym published.log) logged))
+      logged-all passage lines served (is_some setup.place.now.log) jobs ended.clients.items own.lines ended.own.served manned.lined is
+      sent own_sent in (
+        subst (λ (list : List (ServedPort P)). AreLogged (is_some setup.place.now.log)
+            (record { clients = map passage list; operator = option_map passage run.ports.operator }) (map (λ (e : SenderEnd). e.sent) run.ports.log)) (sym published.clients)
+            (subst (λ (one : Option (ServedPort P)). AreLogged (is_some setup.place.now.log)
+            (record { clients = map passage (map (λ (end : Visited P). end.served.port) ended.clients.items); operator = option_map passage one }) (map (λ (e : SenderEnd). e.sent) run.ports.log)) (sym published.operator)
+            (subst (λ (list : List SenderEnd). AreLogged (is_some setup.place.now.log)
+            (record { clients = map passage (map (λ (end : Visited P). end.served.port) ended.clients.items); operator = option_map passage (option_map (λ (served : Served P). served.port) ended.own.served) }) (map (λ (e : SenderEnd). e.sent) list)) (sym published.log) logged)),
+        subst (AreSame (senders_of (map lines jobs) own.lines)) (sym published.log)
+            (ended-all passage lines served (is_some setup.place.now.log) jobs ended.clients.items own.lines ended.own.served is sent own_sent),
+      )
 
 -- there is a port for the operator if there is an operator
 is_operated : {P : Type 0} (place : Place) (terms_of : P → Terms) (port : Option P) →

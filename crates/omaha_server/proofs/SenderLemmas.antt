@@ -8,9 +8,10 @@ use Rattle.access_logs.specs.Logs.{IsLogOf}
 use Rattle.http_ports.specs.Traffic.{Slot}
 use Rattle.http_talks.specs.Ports.{Passage}
 use Rattle.log_queues.specs.Queues.{Ended, Sending}
+use Rattle.rtrb.specs.Ring.{SameProducer}
 use Rattle.mirror_ledger.specs.Asks.{Ask}
 use Rattle.mirror_ledger.specs.Tills.{WorksAs}
-use Rattle.omaha_server.specs.Logging.{AreLogged, HasSent, log_at, those_of}
+use Rattle.omaha_server.specs.Logging.{AreLogged, HasSent, log_at, senders_of, those_of}
 use Rattle.omaha_server.specs.Passages.{Passages}
 use Rattle.omaha_server.specs.declared.ports.ServedPort.{ServedPort}
 use Rattle.omaha_server.specs.declared.setup.Served.{Served}
@@ -83,6 +84,32 @@ sent-last passage (Some first) (Some last) passages ended some sent lines =
     (sym (map-append (λ (e : Ended). e.sent) ended (last ∷ [])))
     (zip-push (λ (p : Passage) (sent : List ℕ). IsLogOf p.slots sent) passages (map (λ (e : Ended). e.sent) ended) passage last.sent
     lines sent.0)
+
+-- senders have ended, of the rings that they had
+abbrev pub AreSame : List Sending → List Ended → Type 0
+AreSame senders ended = AllZip (λ (sender : Sending) (last : Ended). SameProducer sender.end last.end) senders ended
+
+same-one :
+    (slots : ℕ → Slot) (line : Option Sending) (log : Option Ended) (lines : List (Option Sending)) (logs : List (Option Ended)) →
+    HasSent slots line log → AreSame (those_of lines) (those_of logs) → AreSame (those_of (line ∷ lines)) (those_of (log ∷ logs))
+same-one slots None None lines logs sent rest = rest
+same-one slots None (Some last) lines logs sent rest = absurd sent
+same-one slots (Some first) None lines logs sent rest = absurd sent
+same-one slots (Some first) (Some last) lines logs sent rest = (sent.1, rest)
+
+same-none : (senders : List Sending) (ended : List Ended) → AreSame senders ended → AreSame (senders ++ []) (ended ++ [])
+same-none senders ended same =
+    subst (λ (these : List Sending). AreSame these (ended ++ [])) (sym (append-nil senders))
+    (subst (AreSame senders) (sym (append-nil ended)) same)
+
+same-last :
+    (slots : ℕ → Slot) (line : Option Sending) (log : Option Ended) (senders : List Sending) (ended : List Ended) →
+    HasSent slots line log → AreSame senders ended → AreSame (senders ++ option_to_list line) (ended ++ option_to_list log)
+same-last slots None None senders ended sent same = same-none senders ended same
+same-last slots None (Some last) senders ended sent same = absurd sent
+same-last slots (Some first) None senders ended sent same = absurd sent
+same-last slots (Some first) (Some last) senders ended sent same =
+    zip-push (λ (sender : Sending) (one : Ended). SameProducer sender.end one.end) senders ended first last same sent.1
 
 none_of : (line : Option Sending) → is_some line ≡ false → line ≡ None
 none_of None none = refl
@@ -162,3 +189,28 @@ module _ {J E P : Type 0} (passage : ServedPort P → Passage) (line_of : J → 
           unsent_of : (log : Option Ended) (slots : ℕ → Slot) → HasSent slots None log → option_to_list log ≡ []
           unsent_of None slots sent = refl
           unsent_of (Some last) slots sent = absurd sent
+
+  -- senders of the jobs' ports have ended
+  same-all :
+      (jobs : List J) (ends : List E) → HaveSent jobs ends →
+      AreSame (those_of (map line_of jobs)) (those_of (map (λ (end : E). (served_of end).log) ends))
+  same-all [] [] sent = tt
+  same-all [] (end ∷ ends) sent = absurd sent
+  same-all (job ∷ jobs) [] sent = absurd sent
+  same-all (job ∷ jobs) (end ∷ ends) sent =
+      same-one (passage (served_of end).port).slots (line_of job) (served_of end).log (map line_of jobs)
+      (map (λ (e : E). (served_of e).log) ends) sent.0 (same-all jobs ends sent.1)
+
+  -- and the operator's, if it has one
+  pub ended-all :
+      (log : Bool) (jobs : List J) (ends : List E) (line : Option Sending) (served : Option (Served P)) →
+      is_some line ≡ (log && is_some served) → HaveSent jobs ends →
+      IfSome served (λ (s : Served P). HasSent (passage s.port).slots line s.log) →
+      AreSame (senders_of (map line_of jobs) line) (ended_at ends served)
+  ended-all log jobs ends line (Some served) own sent own_sent =
+      same-last (passage served.port).slots line served.log (those_of (map line_of jobs))
+      (those_of (map (λ (end : E). (served_of end).log) ends)) own_sent (same-all jobs ends sent)
+  ended-all log jobs ends None None own sent own_sent =
+      same-none (those_of (map line_of jobs)) (those_of (map (λ (end : E). (served_of end).log) ends)) (same-all jobs ends sent)
+  ended-all true jobs ends (Some first) None own sent own_sent = cc own
+  ended-all false jobs ends (Some first) None own sent own_sent = cc own

@@ -1,10 +1,11 @@
 // The jobs of a server's threads.
 
-ghost use Rattle.std.specs.Prelude.{◌≡◌, All, IfOk, IfSome, length, option_map};
+ghost use Rattle.std.specs.Prelude.{◌≡◌, ◌++◌, ◌&&◌, All, IfOk, IfSome, if◌then◌else◌, length, map, option_map, option_to_list};
 ghost use Rattle.std.specs.Option.{is_some};
 ghost use Rattle.publisher.specs.Sights.{fresh};
 ghost use Rattle.omaha_server.specs.Jobs.{IsManned};
-ghost use Rattle.omaha_server.specs.Logging.{FitOutlets};
+ghost use Rattle.log_queues.specs.Pages.{IsUncut};
+ghost use Rattle.omaha_server.specs.Logging.{AreOpened, Both, FitOutlets, senders_of};
 ghost use Rattle.systems.specs.NewPorts.{IsNew};
 ghost use Rattle.omaha_server.specs.OperatorPorts.{has_operator, terms_left};
 ghost use Rattle.omaha_server.specs.Places.{ArePorts};
@@ -41,25 +42,13 @@ fn operator_port<P: Port + Drop>(
 }
 
 /// The jobs of a server's threads, and what writes their lines. It is not `Drop`, since a press isn't.
-pub(crate) struct Crew<
-    's,
-    'a,
-    'p,
-    'w,
-    'q,
-    'v,
-    S,
-    R: Threads + Wait + AllocGlobal,
-    P: Port,
-    F: WriteWhole,
-    K,
-> {
+pub(crate) struct Crew<'s, 'a, 'p, S, R: Threads + Wait + AllocGlobal, P: Port, F: WriteWhole, K> {
     /// A job for each worker.
     pub(crate) jobs: Vec<Clients<'s, 'a, S, R, P>>,
     /// The operator's job.
     pub(crate) own: Operating<'s, 'a, S, R, P, K>,
     /// What writes their lines.
-    pub(crate) writings: Writings<'p, 'w, 'q, 'v, F>,
+    pub(crate) writings: Writings<'p, F>,
 }
 
 /// What an operator publishes by. It is not `Drop`, since a press isn't.
@@ -70,44 +59,44 @@ pub(crate) struct Publishing<K> {
     pub(crate) records: K,
 }
 
-/// Makes the jobs of a worker for each view and of the operator, each of which has a sender to the log, if there is
-/// one; or gives the press back, if memory runs out.
-pub(crate) fn crew_of<
+impl<K: Drop> Publishing<K> {
+    /// Gives the press alone.
+    pub(crate) fn into_press(self) -> Press {
+        let Publishing { press, records } = self;
+        drop(records);
+        press
+    }
+}
+
+// Makes the jobs of a worker for each view and of the operator, of which each has its sender to the log, if there is one; or
+// gives the press back, if memory runs out.
+fn jobs_of<
     's,
     'a,
-    'p,
-    'w,
-    'q,
-    'v,
     P: Port + Drop,
     S: System<P>,
     R: Threads + Wait + AllocGlobal,
-    F: WriteWhole,
     K: Records + Drop,
 >(
     setup: &'s Setup<'a, S, R>,
     ports: Ports<P>,
     publishing: Publishing<K>,
     views: Vec<View>,
-    outlets: Outlets<'p, 'w, 'q, 'v, F>,
-) -> Result<Crew<'s, 'a, 'p, 'w, 'q, 'v, S, R, P, F, K>, Press>
+    senders: Senders,
+) -> Result<(Vec<Clients<'s, 'a, S, R, P>>, Operating<'s, 'a, S, R, P, K>), Press>
     requires ports { ArePorts P.terms P.slots P.accepted P.is_over setup.now.place.now ports }
     requires many { length views.items ≡ setup.now.place.now.workers }
     requires views { All (λ sight. sight ≡ fresh publishing.press) views.items }
-    requires fit { FitOutlets setup.now.place.now (is_some outlets.errors) (is_some outlets.file) }
-    ensures manned { IfOk result (λ crew. IsManned P.terms setup.now crew.jobs.items crew.own) }
-    ensures press { IfOk result (λ crew. crew.own.press ≡ publishing.press) }
-    ensures records { IfOk result (λ crew. crew.own.records ≡ publishing.records) }
+    requires lined { length senders.clients.items ≡ (if is_some setup.now.place.now.log then setup.now.place.now.workers else 0) }
+    requires operator { is_some senders.operator ≡ (is_some setup.now.place.now.log && is_some setup.now.place.now.operator) }
+    ensures manned { IfOk result (λ made. IsManned P.terms setup.now made.0.items made.1) }
+    ensures senders { IfOk result (λ made. senders_of (map (λ job. job.lines) made.0.items) made.1.lines
+        ≡ senders.clients.items ++ option_to_list senders.operator) }
+    ensures press { IfOk result (λ made. made.1.press ≡ publishing.press) }
+    ensures records { IfOk result (λ made. made.1.records ≡ publishing.records) }
 {
     let Publishing { press, records } = publishing;
     let alloc = setup.rt.alloc();
-    if bind_traffic(setup, &ports).is_err() {
-        return Err(press);
-    }
-    let Ok((senders, writings)) = open_outlets(setup, outlets) else {
-        return Err(press);
-    };
-    note_start(setup, &ports, &press, records.first());
     let Senders {
         clients: senders,
         operator: lines,
@@ -126,9 +115,59 @@ pub(crate) fn crew_of<
         records,
         lines,
     };
-    Ok(Crew {
-        jobs,
-        own,
-        writings,
-    })
+    Ok((jobs, own))
+}
+
+/// Makes the jobs of a worker for each view and of the operator, each of which has a sender to the log, if there is
+/// one, and what writes their lines to what it takes of the outlets; or gives the press back, if memory runs out.
+pub(crate) fn crew_of<
+    's,
+    'a,
+    'p,
+    P: Port + Drop,
+    S: System<P>,
+    R: Threads + Wait + AllocGlobal,
+    F: WriteWhole + Send,
+    K: Records + Drop,
+>(
+    setup: &'s Setup<'a, S, R>,
+    ports: Ports<P>,
+    publishing: Publishing<K>,
+    views: Vec<View>,
+    outlets: &mut Outlets<'p, F>,
+) -> Result<Crew<'s, 'a, 'p, S, R, P, F, K>, Press>
+    requires ports { ArePorts P.terms P.slots P.accepted P.is_over setup.now.place.now ports }
+    requires many { length views.items ≡ setup.now.place.now.workers }
+    requires views { All (λ sight. sight ≡ fresh publishing.press) views.items }
+    requires fit { FitOutlets setup.now.place.now (is_some outlets.old.errors) (is_some outlets.old.file) }
+    requires errors { IfSome outlets.old.errors IsUncut }
+    requires file { IfSome outlets.old.file IsUncut }
+    ensures manned { IfOk result (λ crew. IsManned P.terms setup.now crew.jobs.items crew.own) }
+    ensures opened { IfOk result (λ crew. AreOpened (is_some setup.now.place.now.named)
+        (senders_of (map (λ job. job.lines) crew.jobs.items) crew.own.lines)
+        (option_map (λ writing. writing.opened.value.items) crew.writings.errors)
+        (option_map (λ writing. writing.opened.value.items) crew.writings.file)) }
+    ensures page { IfOk result (λ crew. Both (λ page writing. writing.page ≡ page) outlets.old.errors crew.writings.errors) }
+    ensures filed { IfOk result (λ crew. is_some crew.writings.file ≡ is_some outlets.old.file) }
+    ensures press { IfOk result (λ crew. crew.own.press ≡ publishing.press) }
+    ensures records { IfOk result (λ crew. crew.own.records ≡ publishing.records) }
+{
+    if bind_traffic(setup, &ports).is_err() {
+        return Err(publishing.into_press());
+    }
+    let Ok((senders, writings)) = open_outlets(setup, outlets) else {
+        return Err(publishing.into_press());
+    };
+    note_start(setup, &ports, &publishing.press, publishing.records.first());
+    match jobs_of(setup, ports, publishing, views, senders) {
+        Ok((jobs, own)) => Ok(Crew {
+            jobs,
+            own,
+            writings,
+        }),
+        Err(press) => {
+            drop(writings);
+            Err(press)
+        }
+    }
 }

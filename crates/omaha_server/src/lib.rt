@@ -19,6 +19,7 @@ mod clients;
 mod crew;
 mod ending;
 mod error;
+mod jobs;
 mod lacks;
 mod logging;
 mod new_port;

@@ -1,51 +1,44 @@
 // The log of a server, to which each of its ports sends lines.
 
-ghost use Rattle.std.specs.Prelude.{◌≡◌, ◌≤◌, ◌<◌, ◌+◌, ◌++◌, ◌&&◌, true, All, IfOk, if◌then◌else◌, length, not, option_to_list};
+ghost use Rattle.std.specs.Prelude.{◌≡◌, ◌≤◌, ◌<◌, ◌+◌, ◌-◌, ◌++◌, ◌&&◌, [], true, All, IfErr, IfOk, IfSome, if◌then◌else◌, length, map, not, option_map, option_to_list};
 ghost use Rattle.std.specs.Option.{is_some};
 ghost use Rattle.access_logs.specs.Logs.{IsFresh};
 ghost use Rattle.http_ports.specs.Speech.{one_if};
-ghost use Rattle.omaha_server.specs.Logging.{FitOutlets};
+ghost use Rattle.log_queues.specs.Pages.{IsUncut};
+ghost use Rattle.log_queues.specs.Queues.{HaveEnded};
+ghost use Rattle.omaha_server.specs.Logging.{AreOpened, Both, FitOutlets, IsWritten, unless};
+ghost use Rattle.omaha_server.specs.declared.error.ServerError.TheVariants.{Thread};
 
+use crate::error::ServerError;
 use crate::new_sender::NewSender;
 use crate::place::Place;
 use crate::setup::Setup;
-use log_queues::{LineSender, Log, LogWriter, Page, Signal, open_log};
+use log_queues::{EndedSender, LineSender, Page, WriterThread, Writing};
 use std::alloc::{AllocError, Global};
 use std::fs::File;
-use std::sync::{Arc, Mutex, Wait};
-use std::thread::Scope;
+use std::sync::Wait;
+use std::thread::{Scope, Threads};
 use streams::WriteWhole;
 
 // How many bytes of lines may wait for the log of each port.
 const ROOM: usize = 1 << 19;
 
 /// What the lines of a server are written to: the standard error and a file, if they are.
-#[derive(Clone, Copy, Drop)]
-pub(crate) struct Outlets<'a, 'b, 'c, 'd, F: WriteWhole> {
-    /// The standard error, if its log or what it says of itself is written there.
-    pub(crate) errors: Option<&'a Mutex<Page<'b, F>>>,
-    /// The file of its log, at its end, if it has one.
-    pub(crate) file: Option<&'c Mutex<Page<'d, File>>>,
-}
-
-/// What writes lines, to what, and what ends it.
 #[derive(Drop)]
-pub(crate) struct Writing<'a, 'b, F: WriteWhole> {
-    /// What they are written to.
-    pub(crate) page: &'a Mutex<Page<'b, F>>,
-    /// What writes them.
-    pub(crate) writer: LogWriter,
-    /// What says that there are no more.
-    pub(crate) signal: Arc<Signal, Global>,
+pub(crate) struct Outlets<'p, F: WriteWhole> {
+    /// The standard error, if its log or what it says of itself is written there.
+    pub(crate) errors: Option<Page<'p, F>>,
+    /// The file of its log, at its end, if it has one.
+    pub(crate) file: Option<Page<'p, File>>,
 }
 
 /// What writes the lines of a server.
 #[derive(Drop)]
-pub(crate) struct Writings<'a, 'b, 'c, 'd, F: WriteWhole> {
+pub(crate) struct Writings<'p, F: WriteWhole> {
     /// Those on the standard error, if there are any.
-    pub(crate) errors: Option<Writing<'a, 'b, F>>,
+    pub(crate) errors: Option<Writing<'p, F>>,
     /// Those in the file of its log, if it has one.
-    pub(crate) file: Option<Writing<'c, 'd, File>>,
+    pub(crate) file: Option<Writing<'p, File>>,
 }
 
 /// The senders of a server's ports to its log.
@@ -70,28 +63,21 @@ fn all_new(alloc: Global, senders: Vec<LineSender>) -> Result<Vec<NewSender>, Al
 }
 
 // Opens lines of so many senders, and gives what writes them; without a page there are no senders.
-fn open_lines<'a, 'b, F: WriteWhole>(
+fn open_lines<'p, F: WriteWhole + Send>(
     alloc: Global,
     count: usize,
-    page: Option<&'a Mutex<Page<'b, F>>>,
-) -> Result<(Vec<NewSender>, Option<Writing<'a, 'b, F>>), AllocError>
+    page: Option<Page<'p, F>>,
+) -> Result<(Vec<NewSender>, Option<Writing<'p, F>>), AllocError>
+    requires uncut { IfSome page IsUncut }
     ensures many { IfOk result (λ made. length made.0.items ≡ (if is_some page.entry then count else 0)) }
-    ensures writing { IfOk result (λ made. is_some made.1 ≡ is_some page.entry) }
+    ensures opened { IfOk result (λ made. IfSome made.1 (λ writing. writing.opened.value.items ≡ made.0.items)) }
+    ensures page { IfOk result (λ made. Both (λ page writing. writing.page ≡ page) page.entry made.1) }
 {
     let Some(page) = page else {
         return Ok((Vec::new(alloc), None));
     };
-    let Log {
-        senders,
-        writer,
-        signal,
-    } = open_log(alloc, count, ROOM)?;
+    let (senders, writing) = Writing::open(alloc, count, ROOM, page)?;
     let senders = all_new(alloc, senders)?;
-    let writing = Writing {
-        page,
-        writer,
-        signal,
-    };
     Ok((senders, Some(writing)))
 }
 
@@ -157,21 +143,26 @@ fn part_last<T: Drop>(senders: Vec<T>, is_parted: bool) -> (Vec<T>, Option<T>)
 }
 
 /// Opens the lines of a server: its replies', if they are logged, and what it says of itself, which it has sent to the
-/// standard error.
-pub(crate) fn open_outlets<'a, 'b, 'c, 'd, S, R: Wait + AllocGlobal, F: WriteWhole>(
+/// standard error. What they are written to is taken.
+pub(crate) fn open_outlets<'p, S, R: Wait + AllocGlobal, F: WriteWhole + Send>(
     setup: &Setup<'_, S, R>,
-    outlets: Outlets<'a, 'b, 'c, 'd, F>,
-) -> Result<(Senders, Writings<'a, 'b, 'c, 'd, F>), AllocError>
-    requires { FitOutlets setup.now.place.now (is_some outlets.errors) (is_some outlets.file) }
+    outlets: &mut Outlets<'p, F>,
+) -> Result<(Senders, Writings<'p, F>), AllocError>
+    requires fit { FitOutlets setup.now.place.now (is_some outlets.old.errors) (is_some outlets.old.file) }
+    requires errors { IfSome outlets.old.errors IsUncut }
+    requires file { IfSome outlets.old.file IsUncut }
     ensures many { IfOk result (λ made. length made.0.clients.items ≡ (if is_some setup.now.place.now.log then setup.now.place.now.workers else 0)) }
     ensures operator { IfOk result (λ made. is_some made.0.operator ≡ (is_some setup.now.place.now.log && is_some setup.now.place.now.operator)) }
+    ensures opened { IfOk result (λ made. AreOpened (is_some setup.now.place.now.named) (made.0.clients.items ++ option_to_list made.0.operator)
+        (option_map (λ writing. writing.opened.value.items) made.1.errors) (option_map (λ writing. writing.opened.value.items) made.1.file)) }
+    ensures page { IfOk result (λ made. Both (λ page writing. writing.page ≡ page) outlets.old.errors made.1.errors) }
+    ensures filed { IfOk result (λ made. is_some made.1.file ≡ is_some outlets.old.file) }
 {
     let (alloc, place) = (setup.rt.alloc(), setup.place);
-    let Outlets { errors, file } = outlets;
-    let (filed, file) = open_lines(alloc, count_ports(place, true), file)?;
+    let (filed, file) = open_lines(alloc, count_ports(place, true), outlets.file.take())?;
     let is_here = is_on_errors(place, file.is_some());
     let count = with_one(count_ports(place, is_here), place.named.is_some());
-    let (others, errors) = open_lines(alloc, count, errors)?;
+    let (others, errors) = open_lines(alloc, count, outlets.errors.take())?;
     let (others, own) = part_last(others, place.named.is_some());
     setup.notes.lock(setup.rt).begin(lines_of(own));
     let senders = choose(is_here, others, filed);
@@ -180,45 +171,56 @@ pub(crate) fn open_outlets<'a, 'b, 'c, 'd, S, R: Wait + AllocGlobal, F: WriteWho
     Ok((senders, Writings { errors, file }))
 }
 
-// Writes what the senders of a log send to a page, which no one else has until then.
-fn write_page<R: Wait, F: WriteWhole>(rt: &R, writer: LogWriter, page: &Mutex<Page<'_, F>>) {
-    let mut writer = writer;
-    let mut page = page.lock(rt);
-    writer.write_all(rt, &mut page);
-}
-
-// Does a job in a thread of its own; whether there can be one.
-fn start<'s, E, F: FnOnce() + Send + Drop + 's>(scope: &Scope<'s, E>, job: F) -> bool
-    requires { F.pre job }
+/// Starts the thread of what writes lines, if there is something.
+pub(crate) fn start_writing<'s, 'p, E, R: Wait + Sync, F: WriteWhole + Send>(
+    scope: &Scope<'s, E>,
+    rt: &'s R,
+    writing: Option<Writing<'p, F>>,
+) -> Result<Option<WriterThread<'s, 'p, R, F>>, ServerError>
+where
+    'p: 's,
+    ensures began { IfOk result (λ thread. Both (λ writing thread. thread.began.value ≡ writing) writing.entry thread) }
+    ensures err { IfErr result (λ error. error ≡ Thread) }
 {
-    match scope.spawn(job) {
-        Ok(_) => true,
-        Err(_) => false,
+    match writing {
+        None => Ok(None),
+        Some(writing) => match writing.start(scope, rt) {
+            Some(thread) => Ok(Some(thread)),
+            None => Err(ServerError::Thread),
+        },
     }
 }
 
-/// Starts the thread of what writes lines, if there is something, and gives what ends it; or `None` if there can be no
-/// thread.
-pub(crate) fn start_writing<'s, E, R: Wait + Sync, F: WriteWhole + Send>(
-    scope: &Scope<'s, E>,
-    rt: &'s R,
-    writing: Option<Writing<'s, '_, F>>,
-) -> Option<Option<Arc<Signal, Global>>> {
-    let Some(writing) = writing else {
-        return Some(None);
-    };
-    let Writing {
-        page,
-        writer,
-        signal,
-    } = writing;
-    let is_started = start(scope, move || write_page(rt, writer, page));
-    if is_started { Some(Some(signal)) } else { None }
+/// Ends the thread of what writes lines, if there is one, whose first senders have ended, and gives the page back, with all
+/// that they have sent.
+pub(crate) fn finish_writing<'p, R: Threads + Wait, F: WriteWhole + Send>(
+    rt: &R,
+    thread: Option<WriterThread<'_, 'p, R, F>>,
+    ended: Vec<EndedSender>,
+) -> Option<Page<'p, F>>
+    requires ended { IfSome thread (λ thread. HaveEnded thread.began.value.opened.value.items ended.items) }
+    ensures written { Both (λ thread page. IsWritten F.output (length thread.began.value.opened.value.items - length ended.items)
+        (map (λ sender. sender.sent) ended.items) thread.began.value.page page) thread.entry result }
+{
+    match thread {
+        Some(thread) => Some(thread.finish(rt, ended)),
+        None => None,
+    }
 }
 
-/// Says that there are no more lines, if there were some.
-pub(crate) fn end_writing(signal: Option<Arc<Signal, Global>>) {
-    if let Some(signal) = signal {
-        signal.end();
+/// The senders that have ended of the log on the standard error, and those of the file's, by where it is.
+pub(crate) fn by_page(
+    alloc: Global,
+    has_file: bool,
+    ended: Vec<EndedSender>,
+) -> (Vec<EndedSender>, Vec<EndedSender>)
+    ensures errors { result.0.items ≡ unless has_file ended.items }
+    ensures file { result.1.items ≡ unless (not has_file) ended.items }
+{
+    let none = Vec::new(alloc);
+    if has_file {
+        (none, ended)
+    } else {
+        (ended, none)
     }
 }

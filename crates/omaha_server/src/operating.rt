@@ -71,6 +71,21 @@ pub(crate) struct Operating<'s, 'a, S, R: Threads + Wait + AllocGlobal, P: Port,
     pub(crate) lines: Option<NewSender>,
 }
 
+impl<S, R: Threads + Wait + AllocGlobal, P: Port + Drop, K: Drop> Operating<'_, '_, S, R, P, K> {
+    /// Ends the press.
+    pub(crate) fn end(self, rt: &R) {
+        let Operating {
+            setup: _,
+            port,
+            press,
+            records,
+            lines,
+        } = self;
+        drop((port, records, lines));
+        press.end(rt);
+    }
+}
+
 /// What the operator came to.
 #[derive(Drop)]
 pub(crate) struct Operated<P> {

@@ -200,13 +200,14 @@ fn parts_of<P: Drop>(operator: Option<Served<P>>) -> (Option<ServedPort<P>>, Opt
 }
 
 // rule: Run of a service
-/// The ports and the totals of jobs that came to their ends, and what was sent to the log, if each worker's view may enter
-/// what the operator left, and each port accepted all its connections, or the server was asked to end.
+/// The ports and the totals of jobs that came to their ends, what was sent to the log, and its senders, if each worker's view
+/// may enter what the operator left, and each port accepted all its connections, or the server was asked to end.
 pub(crate) fn published_run<P: Port + Drop>(
     alloc: Global,
     ended: Ended<Visited<P>, Operated<P>>,
-) -> Result<Run<P>, ServerError>
-    ensures ok { IfOk result (IsPublished P.terms P.slots P.accepted ended) }
+) -> Result<(Run<P>, Vec<EndedSender>), ServerError>
+    ensures ok { IfOk result (λ made. IsPublished P.terms P.slots P.accepted ended made.0) }
+    ensures senders { IfOk result (λ made. made.1.items ≡ made.0.ports.log) }
     ensures err { IfErr result (λ error. (error ≡ Unpublished) ⊎ (error ≡ EndedEarly) ⊎ (error ≡ Memory)) }
 {
     let Ended {
@@ -237,5 +238,5 @@ pub(crate) fn published_run<P: Port + Drop>(
     if !ending && !have_accepted_all(&ports) {
         return Err(ServerError::EndedEarly);
     }
-    Ok(Run { ports, totals })
+    Ok((Run { ports, totals }, senders))
 }

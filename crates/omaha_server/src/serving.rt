@@ -1,43 +1,41 @@
 // A service over HTTP, by workers that begin together.
 
-ghost use Rattle.std.specs.Prelude.{◌≡◌, ◌⊎◌, ◌≤◌, All, length, map, IfErr, IfOk};
-ghost use Rattle.std.specs.Option.{is_some};
+ghost use Rattle.std.specs.Prelude.{◌≡◌, ◌⊎◌, ◌≤◌, [], true, All, length, map, IfErr, IfOk, IfSome};
+ghost use Rattle.std.specs.Option.{is_some, option_copied};
+ghost use Rattle.http_ports.specs.Speech.{one_if};
+ghost use Rattle.log_queues.specs.Pages.{IsUncut};
+ghost use Rattle.log_queues.specs.Queues.{IsWhole};
 ghost use Rattle.publisher.specs.Sights.{fresh};
-ghost use Rattle.omaha_server.specs.Logging.{AreLogged, FitOutlets, is_dash};
+ghost use Rattle.omaha_server.specs.Logging.{AreLogged, Both, FitOutlets, IsLoggedHere, IsWritten, file_of, is_dash, unless};
 ghost use Rattle.omaha_server.specs.Checking.{IsChecked, IsLackOf};
 ghost use Rattle.omaha_server.specs.Checks.{IsStockedFor};
-ghost use Rattle.omaha_server.specs.Jobs.{IsManned};
 ghost use Rattle.omaha_server.specs.Passages.{passages_in, passages_of};
-ghost use Rattle.omaha_server.specs.Runs.{HasServed, PrintsLines};
-ghost use Rattle.omaha_server.specs.Serving.{AreTotals, IsLogged, IsSilent, IsLater, IsUnlogged, Serves, Stops, begun};
-ghost use Rattle.omaha_server.specs.declared.error.ServerError.TheVariants.{Memory, NoPlace, RoomLeft, Thread, Unpublished, EndedEarly};
+ghost use Rattle.omaha_server.specs.Runs.{PrintsLines};
+ghost use Rattle.omaha_server.specs.Serving.{IsLater, IsLogged, IsOpened, IsSilent, IsUnlogged, Serves, begun};
+ghost use Rattle.omaha_server.specs.declared.error.ServerError.TheVariants.{Memory, NoPlace};
 
 use crate::checking::SystemFolder;
-use crate::clients::Clients;
-use crate::crew::{Crew, Publishing, crew_of};
+use crate::crew::Publishing;
 use crate::ending::Ending;
 use crate::error::ServerError;
-use crate::logging::{Outlets, Writings, end_writing, start_writing};
+use crate::jobs::serve_press;
+use crate::logging::Outlets;
 use crate::notes::Notes;
-use crate::opening::open_place;
-use crate::operating::Operating;
 use crate::place::Place;
 use crate::ports::ServedPorts;
-use crate::running::{Run, ends_of, published_run};
+use crate::running::Run;
 use crate::setup::Setup;
 use crate::traffic::Traffic;
 use editions::Edition;
 use http_ports::Port;
 use kept_records::Records;
 use log_queues::Page;
-use mirror_ledger::run_with_tills;
 use package_files::{Lacking, look_for_apps};
 use publisher::{Press, PublishError, View, open_edition};
 use services::{KeptService, Mirrors, Service, names_of, totals_string};
 use std::alloc::Global;
 use std::fs::File;
 use std::sync::{Mutex, Wait};
-use std::thread;
 use std::thread::Threads;
 use std::time::Clock;
 use streams::WriteWhole;
@@ -63,131 +61,6 @@ fn open_views<R: Wait>(
         Err(PublishError::NoPlace) => Err(ServerError::NoPlace),
         Err(_) => Err(ServerError::Memory),
     }
-}
-
-// rule: Totals of a server
-// rule: Log of a server
-// Runs the jobs of the workers and of the operator, with a till for each worker, beside a thread for each page that
-// lines are written to. The press still shows what the operator left when the workers' views are compared with it.
-fn run_jobs<
-    P: Port + Send + Drop,
-    S: System<P> + Sync,
-    R: Clock + Threads + Wait + Sync + AllocGlobal,
-    F: WriteWhole + Send,
-    G: Gate + Sync,
-    K: Records,
->(
-    setup: &Setup<'_, S, R>,
-    gate: &G,
-    mirrors: Mirrors,
-    jobs: Vec<Clients<'_, '_, S, R, P>>,
-    own: &mut Operating<'_, '_, S, R, P, K>,
-    writings: Writings<'_, '_, '_, '_, F>,
-) -> Result<Run<P>, ServerError>
-    requires manned { IsManned P.terms setup.now jobs.items own.old }
-    ensures ok { IfOk result (λ run. AreTotals (S.edges setup.now.system.now) setup.now.place.now
-        (record { edition = own.old.press; mirrors = mirrors })
-        (begun own.old.press (K.first own.old.records) (K.kept own.old.records)).store
-        (passages_of P.terms P.slots P.accepted run.ports) run.totals.items) }
-    ensures replies { IfOk result (λ run. AreLogged (is_some setup.now.place.now.log)
-        (passages_of P.terms P.slots P.accepted run.ports) (map (λ ended. ended.sent) run.ports.log)) }
-    ensures err { IfErr result (λ error. (error ≡ Thread) ⊎ (error ≡ RoomLeft) ⊎ (error ≡ Unpublished) ⊎ (error ≡ EndedEarly) ⊎ (error ≡ Memory)) }
-{
-    thread::scope(
-        thread::scope_env(),
-        setup.rt,
-        |scope| -> Result<Run<P>, ServerError>
-            requires manned { IsManned P.terms setup.now jobs.items own.now }
-            ensures ok { IfOk result (λ run. AreTotals (S.edges setup.entry.now.system.now) setup.entry.now.place.now
-                (record { edition = own.entry.now.press; mirrors = mirrors })
-                (begun own.entry.now.press (K.first own.entry.now.records) (K.kept own.entry.now.records)).store
-                (passages_of P.terms P.slots P.accepted run.ports) run.totals.items) }
-            ensures replies { IfOk result (λ run. AreLogged (is_some setup.entry.now.place.now.log)
-                (passages_of P.terms P.slots P.accepted run.ports) (map (λ ended. ended.sent) run.ports.log)) }
-            ensures err { IfErr result (λ error. (error ≡ Thread) ⊎ (error ≡ RoomLeft) ⊎ (error ≡ Unpublished) ⊎ (error ≡ EndedEarly) ⊎ (error ≡ Memory)) }
-        {
-            let rt = setup.runtime();
-            let Writings { errors, file } = writings;
-            let Some(errors) = start_writing(scope, rt, errors) else {
-                return Err(ServerError::Thread);
-            };
-            let Some(file) = start_writing(scope, rt, file) else {
-                end_writing(errors);
-                return Err(ServerError::Thread);
-            };
-            let ran = run_with_tills(rt, rt.alloc(), mirrors.into_vec(), gate, jobs, own);
-            setup.notes.lock(rt).end();
-            end_writing(errors);
-            end_writing(file);
-            let ended = ends_of(rt.alloc(), ran)?;
-            let run = published_run(rt.alloc(), ended)?;
-            Ok(run)
-        },
-    )
-}
-
-// Serves at the addresses of a place whose folder was found, over an edition that was published, and ends its press.
-fn serve_press<
-    P: Port + Send + Drop,
-    S: System<P> + Sync,
-    R: Clock + Threads + Wait + Sync + AllocGlobal,
-    F: WriteWhole + Send,
-    O: WriteWhole,
-    G: Gate + Sync,
-    K: Records + Drop,
->(
-    setup: &Setup<'_, S, R>,
-    publishing: Publishing<K>,
-    mirrors: Mirrors,
-    views: Vec<View>,
-    gate: &G,
-    out: &mut O,
-    outlets: Outlets<'_, '_, '_, '_, F>,
-) -> Result<Run<P>, ServerError>
-    requires folder { (S.edges setup.now.system.now).folders setup.now.place.now.packages }
-    requires many { length views.items ≡ setup.now.place.now.workers }
-    requires views { All (λ sight. sight ≡ fresh publishing.press) views.items }
-    requires fit { FitOutlets setup.now.place.now (is_some outlets.errors) (is_some outlets.file) }
-    ensures ok { IfOk result (λ run. HasServed (S.edges setup.now.system.now) setup.now.place.now
-        (record { edition = publishing.press; mirrors = mirrors })
-        (begun publishing.press (K.first publishing.records) (K.kept publishing.records)).store (O.output out.old) (O.output out.new)
-        (passages_of P.terms P.slots P.accepted run.ports) run.totals.items) }
-    ensures replies { IfOk result (λ run. AreLogged (is_some setup.now.place.now.log)
-        (passages_of P.terms P.slots P.accepted run.ports) (map (λ ended. ended.sent) run.ports.log)) }
-    ensures err { IfErr result (λ error. IsLater error
-        × Stops (S.edges setup.now.system.now) setup.now.place.now (O.output out.old) (O.output out.new) error) }
-{
-    let rt = setup.rt;
-    let ports = match open_place(rt.alloc(), setup.system, setup.place, out) {
-        Ok(ports) => ports,
-        Err(error) => {
-            let Publishing { press, records: _ } = publishing;
-            press.end(rt);
-            return Err(error);
-        }
-    };
-    let Crew {
-        jobs,
-        own,
-        writings,
-    } = match crew_of(setup, ports, publishing, views, outlets) {
-        Ok(crew) => crew,
-        Err(press) => {
-            press.end(rt);
-            return Err(ServerError::Memory);
-        }
-    };
-    let mut own = own;
-    let run = run_jobs(setup, gate, mirrors, jobs, &mut own, writings);
-    let Operating {
-        setup: _,
-        port: _,
-        press,
-        records: _,
-        lines: _,
-    } = own;
-    press.end(rt);
-    run
 }
 
 // Prints the totals of mirrors of those names.
@@ -249,15 +122,19 @@ fn serve_found<
     kept: KeptService<K>,
     gate: &G,
     out: &mut O,
-    outlets: Outlets<'_, '_, '_, '_, F>,
+    outlets: &mut Outlets<'_, F>,
 ) -> Result<ServedPorts<P>, ServerError>
     requires folder { (S.edges setup.now.system.now).folders setup.now.place.now.packages }
-    requires fit { FitOutlets setup.now.place.now (is_some outlets.errors) (is_some outlets.file) }
+    requires fit { FitOutlets setup.now.place.now (is_some outlets.old.errors) (is_some outlets.old.file) }
+    requires errors { IfSome outlets.old.errors IsUncut }
+    requires file { IfSome outlets.old.file IsUncut }
     ensures serves { Serves (S.edges setup.now.system.now) setup.now.place.now kept.service
         (begun kept.service.edition (K.first kept.records) (K.kept kept.records)).store (O.output out.old) (O.output out.new)
         (passages_in P.terms P.slots P.accepted result) }
     ensures replies { IfOk result (λ ports. AreLogged (is_some setup.now.place.now.log)
         (passages_of P.terms P.slots P.accepted ports) (map (λ ended. ended.sent) ports.log)) }
+    ensures page { IfOk result (λ ports. Both (IsWritten F.output (one_if (is_some setup.now.place.now.named))
+        (unless (is_some outlets.old.file) (map (λ ended. ended.sent) ports.log))) outlets.old.errors outlets.new.errors) }
     ensures later { IfErr result IsLater }
 {
     let (rt, place) = (setup.rt, setup.place);
@@ -291,15 +168,18 @@ fn serve_with<
     kept: KeptService<K>,
     gate: &G,
     out: &mut O,
-    errors: Option<&Mutex<Page<'_, F>>>,
-    file: Option<&Mutex<Page<'_, File>>>,
+    outlets: &mut Outlets<'_, F>,
 ) -> Result<ServedPorts<P>, ServerError>
-    requires { FitOutlets setup.now.place.now (is_some errors) (is_some file) }
+    requires fit { FitOutlets setup.now.place.now (is_some outlets.old.errors) (is_some outlets.old.file) }
+    requires errors { IfSome outlets.old.errors IsUncut }
+    requires file { IfSome outlets.old.file IsUncut }
     ensures serves { Serves (S.edges setup.now.system.now) setup.now.place.now kept.service
         (begun kept.service.edition (K.first kept.records) (K.kept kept.records)).store (O.output out.old) (O.output out.new)
         (passages_in P.terms P.slots P.accepted result) }
     ensures replies { IfOk result (λ ports. AreLogged (is_some setup.now.place.now.log)
         (passages_of P.terms P.slots P.accepted ports) (map (λ ended. ended.sent) ports.log)) }
+    ensures page { IfOk result (λ ports. Both (IsWritten F.output (one_if (is_some setup.now.place.now.named))
+        (unless (is_some outlets.old.file) (map (λ ended. ended.sent) ports.log))) outlets.old.errors outlets.new.errors) }
     ensures unlogged { IfErr result IsUnlogged }
     ensures stocked { IsStockedFor (S.edges setup.now.system.now) setup.now.place.now kept.service.edition
         (O.output out.old) (O.output out.new) result }
@@ -308,7 +188,7 @@ fn serve_with<
         return Err(ServerError::Folder);
     }
     match check_packages::<P, S, R>(setup, &kept.service.edition) {
-        Ok(()) => serve_found(setup, kept, gate, out, Outlets { errors, file }),
+        Ok(()) => serve_found(setup, kept, gate, out, outlets),
         Err(error) => Err(error),
     }
 }
@@ -320,8 +200,19 @@ fn is_dash(path: &str) -> bool
     path == "-"
 }
 
-// Serves a service, and writes on a page what is for the standard error.
-fn serve_on_errors<
+// The file of a log, if it has one.
+fn file_of(log: &Option<Text>) -> Option<&str>
+    ensures { option_copied result ≡ file_of log.now }
+{
+    match log {
+        Some(path) if !is_dash(path.as_str()) => Some(path.as_str()),
+        _ => None,
+    }
+}
+
+// rule: Standard error of a server
+// Serves a service that logs its replies on the standard error, if it does, and has no file for them.
+fn serve_here<
     P: Port + Send + Drop,
     S: System<P> + Sync,
     R: Clock + Threads + Wait + Sync + AllocGlobal,
@@ -334,8 +225,97 @@ fn serve_on_errors<
     kept: KeptService<K>,
     gate: &G,
     out: &mut O,
-    errors: &Mutex<Page<'_, F>>,
+    errors: &mut F,
 ) -> Result<ServedPorts<P>, ServerError>
+    ensures serves { Serves (S.edges setup.now.system.now) setup.now.place.now kept.service
+        (begun kept.service.edition (K.first kept.records) (K.kept kept.records)).store (O.output out.old) (O.output out.new)
+        (passages_in P.terms P.slots P.accepted result) }
+    ensures unlogged { IfErr result IsUnlogged }
+    ensures replies { IfOk result (λ ports. AreLogged (is_some setup.now.place.now.log)
+        (passages_of P.terms P.slots P.accepted ports) (map (λ ended. ended.sent) ports.log)) }
+    ensures page { IfOk result (λ ports. IsWhole (one_if (is_some setup.now.place.now.named)) (map (λ ended. ended.sent) ports.log)
+        (F.output errors.old) (F.output errors.new)) }
+    ensures stocked { IsStockedFor (S.edges setup.now.system.now) setup.now.place.now kept.service.edition
+        (O.output out.old) (O.output out.new) result }
+{
+    let mut outlets = Outlets {
+        errors: Some(Page::new(errors)),
+        file: None,
+    };
+    let ports = serve_with(setup, kept, gate, out, &mut outlets)?;
+    let Outlets {
+        errors: page,
+        file: _,
+    } = outlets;
+    let Some(page) = page else { unreachable!() };
+    let written = page.into_inner();
+    // No effect at run time. The proof reads what was written from this use of it.
+    let _ = &*written;
+    Ok(ports)
+}
+
+// Serves a service that logs its replies in a file, and says of itself on the standard error what it does.
+fn serve_beside<
+    P: Port + Send + Drop,
+    S: System<P> + Sync,
+    R: Clock + Threads + Wait + Sync + AllocGlobal,
+    F: WriteWhole + Send,
+    O: WriteWhole,
+    G: Gate + Sync,
+    K: Records + Drop,
+>(
+    setup: &Setup<'_, S, R>,
+    kept: KeptService<K>,
+    gate: &G,
+    out: &mut O,
+    errors: &mut F,
+    path: &str,
+) -> Result<ServedPorts<P>, ServerError>
+    requires logged { is_some setup.now.place.now.log ≡ true }
+    ensures serves { Serves (S.edges setup.now.system.now) setup.now.place.now kept.service
+        (begun kept.service.edition (K.first kept.records) (K.kept kept.records)).store (O.output out.old) (O.output out.new)
+        (passages_in P.terms P.slots P.accepted result) }
+    ensures opened { IsOpened (S.edges setup.now.system.now) path.now result }
+    ensures replies { IfOk result (λ ports. AreLogged (is_some setup.now.place.now.log)
+        (passages_of P.terms P.slots P.accepted ports) (map (λ ended. ended.sent) ports.log)) }
+    ensures page { IfOk result (λ ports. IsWhole (one_if (is_some setup.now.place.now.named)) [] (F.output errors.old) (F.output errors.new)) }
+    ensures stocked { IsStockedFor (S.edges setup.now.system.now) setup.now.place.now kept.service.edition
+        (O.output out.old) (O.output out.new) result }
+{
+    let Ok(mut file) = setup.system.open_log(path) else {
+        return Err(ServerError::Log);
+    };
+    let mut outlets = Outlets {
+        errors: Some(Page::new(errors)),
+        file: Some(Page::new(&mut file)),
+    };
+    let ports = serve_with(setup, kept, gate, out, &mut outlets)?;
+    let Outlets {
+        errors: page,
+        file: _,
+    } = outlets;
+    let Some(page) = page else { unreachable!() };
+    let written = page.into_inner();
+    // No effect at run time. The proof reads what was written from this use of it.
+    let _ = &*written;
+    Ok(ports)
+}
+
+// Serves a service that writes nothing on the standard error.
+fn serve_silently<
+    P: Port + Send + Drop,
+    S: System<P> + Sync,
+    R: Clock + Threads + Wait + Sync + AllocGlobal,
+    O: WriteWhole,
+    G: Gate + Sync,
+    K: Records + Drop,
+>(
+    setup: &Setup<'_, S, R>,
+    kept: KeptService<K>,
+    gate: &G,
+    out: &mut O,
+) -> Result<ServedPorts<P>, ServerError>
+    requires silent { IsSilent setup.now.place.now }
     ensures serves { Serves (S.edges setup.now.system.now) setup.now.place.now kept.service
         (begun kept.service.edition (K.first kept.records) (K.kept kept.records)).store (O.output out.old) (O.output out.new)
         (passages_in P.terms P.slots P.accepted result) }
@@ -345,21 +325,21 @@ fn serve_on_errors<
     ensures stocked { IsStockedFor (S.edges setup.now.system.now) setup.now.place.now kept.service.edition
         (O.output out.old) (O.output out.new) result }
 {
-    let none = None::<&'static Mutex<Page<'static, File>>>;
-    let errors = Some(errors);
     let Some(path) = &setup.place.log else {
-        return serve_with(setup, kept, gate, out, errors, none);
+        let mut outlets = Outlets {
+            errors: None::<Page<'_, File>>,
+            file: None,
+        };
+        return serve_with(setup, kept, gate, out, &mut outlets);
     };
-    let path = path.as_str();
-    if is_dash(path) {
-        return serve_with(setup, kept, gate, out, errors, none);
-    }
-    let Ok(mut file) = setup.system.open_log(path) else {
+    let Ok(mut file) = setup.system.open_log(path.as_str()) else {
         return Err(ServerError::Log);
     };
-    let page = Mutex::new(Page::new(&mut file));
-    let file = Some(&page);
-    serve_with(setup, kept, gate, out, errors, file)
+    let mut outlets = Outlets {
+        errors: None::<Page<'_, File>>,
+        file: Some(Page::new(&mut file)),
+    };
+    serve_with(setup, kept, gate, out, &mut outlets)
 }
 
 // What a server of a service counts in.
@@ -423,6 +403,8 @@ pub fn serve<
     ensures stocked { IsStockedFor (S.edges system.now) place.now kept.service.edition
         (O.output out.old) (O.output out.new) result }
     ensures silent { IsSilent place.now → errors.new ≡ errors.old }
+    ensures lines { IfOk result (λ ports. IsLoggedHere place.now (map (λ ended. ended.sent) ports.log)
+        (F.output errors.old) (F.output errors.new)) }
 {
     let notes = Mutex::new(Notes::new(rt.alloc()));
     let ending = Ending::new(place.workers);
@@ -435,23 +417,10 @@ pub fn serve<
         ending: &ending,
         traffic: &traffic,
     };
-    if place.named.is_some() {
-        let page = Mutex::new(Page::new(errors));
-        return serve_on_errors(&setup, kept, gate, out, &page);
+    let is_named = place.named.is_some();
+    match file_of(&place.log) {
+        Some(path) if is_named => serve_beside(&setup, kept, gate, out, errors, path),
+        None if is_named || place.log.is_some() => serve_here(&setup, kept, gate, out, errors),
+        _ => serve_silently(&setup, kept, gate, out),
     }
-    let none = None::<&'static Mutex<Page<'static, File>>>;
-    let Some(path) = &place.log else {
-        return serve_with(&setup, kept, gate, out, none, none);
-    };
-    let path = path.as_str();
-    if is_dash(path) {
-        let page = Mutex::new(Page::new(errors));
-        return serve_on_errors(&setup, kept, gate, out, &page);
-    }
-    let Ok(mut file) = system.open_log(path) else {
-        return Err(ServerError::Log);
-    };
-    let page = Mutex::new(Page::new(&mut file));
-    let file = Some(&page);
-    serve_with(&setup, kept, gate, out, none, file)
 }
