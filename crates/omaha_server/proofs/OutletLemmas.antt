@@ -1,5 +1,5 @@
 -- The senders of a server's lines, by where they are written.
-use Rattle.std.proofs.Common.{◌≡◌, ◌∙◌, ◌<◌, ◌+◌, ◌&&◌, ℕ, Bool, true, false, List, [], ◌∷◌, ◌++◌, Option, Some, None, append-nil, arith, if◌then◌else◌, is_some, length, not, option_map, option_to_list, refl, sym, subst, ap}
+use Rattle.std.proofs.Common.{◌≡◌, ◌∙◌, ◌<◌, ◌+◌, ◌&&◌, ℕ, Bool, true, false, List, ◌++◌, Option, Some, None, arith, if◌then◌else◌, is_some, length, not, option_to_list, refl, sym, subst, ap}
 use Rattle.std.proofs.lemmas.List.{length-append}
 use Rattle.http_ports.specs.Speech.{one_if}
 use Rattle.log_queues.specs.Queues.{Sending}

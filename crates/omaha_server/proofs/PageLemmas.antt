@@ -129,7 +129,7 @@ file-ended opened_of began_of first log senders given has_file writing (Some t) 
     ended-there opened_of began_of 0 first log given same (is ∙ ap (λ (b : Bool). unless (not b) senders) has ∙ are) writing
     (Some t) began opened
 
--- a page that was taken is there again
+-- a page is there again
 pub written-over :
     {F W : Type 0} (output : F → Known) (page_of : W → Page F) (many : ℕ) (sents : List (List ℕ)) (was is : Bool)
     (before : Option (Page F)) (writing : Option W) (after : Option (Page F)) →

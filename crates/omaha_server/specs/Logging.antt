@@ -1,5 +1,5 @@
 -- What a server sends to its log; this project's profile.
-use Rattle.std.specs.Prelude.{◌≡◌, ◌++◌, ⊤, ℕ, Bool, true, false, List, [], ◌∷◌, IfSome, bytes_eq, codes, if◌then◌else◌, length, map, option_to_list, Option, None, Some}
+use Rattle.std.specs.Prelude.{◌≡◌, ◌++◌, ⊤, ℕ, Bool, true, false, List, [], ◌∷◌, IfSome, bytes_eq, codes, if◌then◌else◌, length, option_to_list, Option, None, Some}
 use Rattle.std.specs.List.{AllZip}
 use Rattle.std.specs.Option.{is_some}
 use Rattle.access_logs.specs.Logs.{IsLogOf}

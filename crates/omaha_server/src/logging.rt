@@ -1,6 +1,6 @@
 // The log of a server, to which each of its ports sends lines.
 
-ghost use Rattle.std.specs.Prelude.{◌≡◌, ◌≤◌, ◌<◌, ◌+◌, ◌-◌, ◌++◌, ◌&&◌, [], true, All, IfErr, IfOk, IfSome, if◌then◌else◌, length, map, not, option_map, option_to_list};
+ghost use Rattle.std.specs.Prelude.{◌≡◌, ◌≤◌, ◌<◌, ◌+◌, ◌-◌, ◌++◌, ◌&&◌, true, All, IfErr, IfOk, IfSome, if◌then◌else◌, length, map, not, option_map, option_to_list};
 ghost use Rattle.std.specs.Option.{is_some};
 ghost use Rattle.access_logs.specs.Logs.{IsFresh};
 ghost use Rattle.http_ports.specs.Speech.{one_if};
@@ -143,7 +143,7 @@ fn part_last<T: Drop>(senders: Vec<T>, is_parted: bool) -> (Vec<T>, Option<T>)
 }
 
 /// Opens the lines of a server: its replies', if they are logged, and what it says of itself, which it has sent to the
-/// standard error. What they are written to is taken.
+/// standard error. It takes the pages.
 pub(crate) fn open_outlets<'p, S, R: Wait + AllocGlobal, F: WriteWhole + Send>(
     setup: &Setup<'_, S, R>,
     outlets: &mut Outlets<'p, F>,

@@ -371,7 +371,8 @@ fn traffic_of(alloc: Global, workers: usize, service: &Service) -> Traffic {
 ///
 /// The log gets a line for each reply, as `access_logs` has it, at the end of its file, or on `errors`, which is
 /// otherwise left as it is; workers never mix their lines. A line that can't be written is lost, and holds up no reply. What
-/// was sent to the log is given back with the ports.
+/// was sent to the log is given back with the ports; `errors` then has all of it, if it is the log, beside what the server
+/// says of itself, and nothing else.
 ///
 /// If the place has a name, the server says of itself on `errors`, in lines that begin with `omaha: `, what it serves,
 /// which packages are not in the folder, what is published and raised, which package kept a script from being

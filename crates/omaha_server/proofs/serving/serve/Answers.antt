@@ -1,6 +1,5 @@
-use Rattle.std.proofs.Common.{rules, ◌≡◌, is_some, map}
+use Rattle.std.proofs.Common.{rules, is_some, map}
 use Rattle.http_ports.specs.Speech.{one_if}
-use Rattle.omaha_server.specs.Logging.{file_of}
 use Rattle.omaha_server.specs.Passages.{passages_of}
 use Rattle.omaha_server.specs.Serving.{IsSilent}
 use Rattle.omaha_server.proofs.PageLemmas.{beside-lines, here-lines, silent-lines}
