@@ -59,7 +59,8 @@ pub struct WriterThread<'s, 'p, R: Wait, W: WriteWhole + Send> {
 
 impl<'s, 'p, R: Wait, W: WriteWhole + Send> WriterThread<'s, 'p, R, W> {
     // rule: Whole log
-    /// Ends a log whose first senders have ended, and gives back what it is written to, with all that they have sent.
+    /// Ends a log whose first senders have ended, and gives back what it is written to. All that they have sent was received
+    /// and, unless a write failed, written.
     ///
     /// They are in the order in which they were opened. It waits for the thread's end.
     pub fn finish<T: Threads>(self, rt: &T, ended: Vec<EndedSender>) -> Page<'p, W>

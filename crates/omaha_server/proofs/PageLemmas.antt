@@ -7,7 +7,7 @@ use Rattle.log_queues.specs.Queues.{Ended, HaveEnded, IsWhole, Sending}
 use Rattle.log_queues.specs.declared.page.Page.{Page}
 use Rattle.rtrb.specs.Ring.{SameProducer}
 use Rattle.streams.specs.Streams.{Known}
-use Rattle.omaha_server.specs.Logging.{AreLogged, AreOpened, BeginWith, Both, IsWritten, file_of, is_dash, logs_here, unless}
+use Rattle.omaha_server.specs.Logging.{AreLogged, AreOpened, BeginWith, Both, IsFilled, file_of, is_dash, logs_here, unless}
 use Rattle.omaha_server.specs.Passages.{Passages}
 use Rattle.omaha_server.specs.Serving.{LogsElsewhere}
 use Rattle.omaha_server.proofs.OutletLemmas.{length-option}
@@ -67,19 +67,19 @@ module _ {W T : Type 0} (opened_of : W → List Sending) (began_of : T → W) (m
   pub written-there :
       {F : Type 0} (output : F → Known) (page_of : W → Page F) (writing : Option W) (thread : Option T) (page : Option (Page F)) →
       Both (λ (w : W) (t : T). began_of t ≡ w) writing thread → IfSome (option_map opened_of writing) (BeginWith many senders) →
-      Both (λ (t : T) (p : Page F). IsWritten output (length (opened_of (began_of t)) - length given)
+      Both (λ (t : T) (p : Page F). IsFilled output (length (opened_of (began_of t)) - length given)
       (map (λ (e : Ended). e.sent) given) (page_of (began_of t)) p) thread page →
-      Both (λ (w : W) (p : Page F). IsWritten output many (map (λ (e : Ended). e.sent) ended) (page_of w) p) writing page
+      Both (λ (w : W) (p : Page F). IsFilled output many (map (λ (e : Ended). e.sent) ended) (page_of w) p) writing page
   written-there output page_of None None None began opened written = tt
   written-there output page_of None None (Some p) began opened written = absurd written
   written-there output page_of None (Some t) page began opened written = absurd began
   written-there output page_of (Some w) None page began opened written = absurd began
   written-there output page_of (Some w) (Some t) None began opened written = absurd written
   written-there output page_of (Some w) (Some t) (Some p) began opened written =
-      subst (λ (n : ℕ). IsWritten output n (map (λ (e : Ended). e.sent) ended) (page_of w) p)
+      subst (λ (n : ℕ). IsFilled output n (map (λ (e : Ended). e.sent) ended) (page_of w) p)
       (others-of many senders (opened_of w) ended opened same)
-      (subst (λ (was : W). IsWritten output (length (opened_of was) - length ended) (map (λ (e : Ended). e.sent) ended) (page_of was) p) began
-      (subst (λ (these : List Ended). IsWritten output (length (opened_of (began_of t)) - length these)
+      (subst (λ (was : W). IsFilled output (length (opened_of was) - length ended) (map (λ (e : Ended). e.sent) ended) (page_of was) p) began
+      (subst (λ (these : List Ended). IsFilled output (length (opened_of (began_of t)) - length these)
       (map (λ (e : Ended). e.sent) these) (page_of (began_of t)) p) are written))
 
 -- there is a file's log as its thread, and the other page's senders are those that are not its
@@ -103,15 +103,15 @@ pub page-written :
     (writing : Option V) (thread : Option T) (page : Option (Page F)) →
     Both (λ (v : V) (t : T). began_of t ≡ v) writing thread →
     IfSome (option_map opened_on writing) (BeginWith many (unless (is_some (option_map opened_in file)) first)) →
-    Both (λ (t : T) (p : Page F). IsWritten output (length (opened_on (began_of t)) - length given)
+    Both (λ (t : T) (p : Page F). IsFilled output (length (opened_on (began_of t)) - length given)
     (map (λ (e : Ended). e.sent) given) (page_of (began_of t)) p) thread page →
-    Both (λ (v : V) (p : Page F). IsWritten output many (unless (is_some file) (map (λ (e : Ended). e.sent) log)) (page_of v) p)
+    Both (λ (v : V) (p : Page F). IsFilled output many (unless (is_some file) (map (λ (e : Ended). e.sent) log)) (page_of v) p)
     writing page
 page-written {F} {V} output opened_on opened_in began_of page_of began many first log senders given has_file file filing both has are is same
     writing thread page started opened written =
     let filed = is_some (option_map opened_in file) in
     let now = here-given began opened_in log senders given has_file file filing both has are is in
-    subst (λ (sents : List (List ℕ)). Both (λ (v : V) (p : Page F). IsWritten output many sents (page_of v) p) writing page)
+    subst (λ (sents : List (List ℕ)). Both (λ (v : V) (p : Page F). IsFilled output many sents (page_of v) p) writing page)
     (unless-map (λ (e : Ended). e.sent) filed log
     ∙ ap (λ (b : Bool). unless b (map (λ (e : Ended). e.sent) log)) (is_some-map opened_in file))
     (written-there opened_on began_of many (unless filed first) (unless filed log) given (unless-same filed first log same) now
@@ -134,16 +134,16 @@ pub written-over :
     {F W : Type 0} (output : F → Known) (page_of : W → Page F) (many : ℕ) (sents : List (List ℕ)) (was is : Bool)
     (before : Option (Page F)) (writing : Option W) (after : Option (Page F)) →
     Both (λ (p : Page F) (w : W). page_of w ≡ p) before writing → is ≡ was →
-    Both (λ (w : W) (p : Page F). IsWritten output many (unless is sents) (page_of w) p) writing after →
-    Both (IsWritten output many (unless was sents)) before after
+    Both (λ (w : W) (p : Page F). IsFilled output many (unless is sents) (page_of w) p) writing after →
+    Both (IsFilled output many (unless was sents)) before after
 written-over output page_of many sents was is None None None taken filed written = tt
 written-over output page_of many sents was is None None (Some p) taken filed written = absurd written
 written-over output page_of many sents was is None (Some w) after taken filed written = absurd taken
 written-over output page_of many sents was is (Some p) None after taken filed written = absurd taken
 written-over output page_of many sents was is (Some p) (Some w) None taken filed written = absurd written
 written-over {F} output page_of many sents was is (Some p) (Some w) (Some q) taken filed written =
-    subst (λ (b : Bool). IsWritten output many (unless b sents) p q) filed
-    (subst (λ (first : Page F). IsWritten output many (unless is sents) first q) taken written)
+    subst (λ (b : Bool). IsFilled output many (unless b sents) p q) filed
+    (subst (λ (first : Page F). IsFilled output many (unless is sents) first q) taken written)
 
 -- a list that has no item
 none-at : {A : Type 0} (items : List A) → length items ≡ 0 → items ≡ []

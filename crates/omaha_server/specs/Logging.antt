@@ -89,14 +89,14 @@ pub record AreOpened (named : Bool) (senders : List Sending) (errors file : Opti
   pub here : IfSome errors (BeginWith (one_if named) (unless (is_some file) senders))
   pub there : IfSome file (BeginWith 0 senders)
 
--- after what a page had, it has all that these have sent, beside what so many others did, and nothing else
-abbrev pub IsWritten : {F : Type 0} → (F → Known) → ℕ → List (List ℕ) → Page F → Page F → Type 0
-IsWritten output many sents before after =
+-- after what a page had, it has what these have sent, and beside it what so many others did
+abbrev pub IsFilled : {F : Type 0} → (F → Known) → ℕ → List (List ℕ) → Page F → Page F → Type 0
+IsFilled output many sents before after =
     (after.out.ghost_name ≡ before.out.ghost_name) × IsWhole many sents (output before.out.now) (output after.out.now)
 
 -- rule: Standard error of a server
--- after what was there, the standard error has all that was sent for each port, if replies are logged there, beside what the
--- server says of itself, if it has a name; and nothing else
+-- after what was there, the standard error has what was sent for each port, if replies are logged there, and what one more
+-- sender has sent, if the server has a name; without a log and a name it has nothing more
 abbrev pub IsLoggedHere : Place → List (List ℕ) → Known → Known → Type 0
 IsLoggedHere place sents old new =
     IsWhole (one_if (is_some place.named)) (if logs_here place.log then sents else []) old new

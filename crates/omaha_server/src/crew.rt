@@ -2,9 +2,9 @@
 
 ghost use Rattle.std.specs.Prelude.{◌≡◌, ◌++◌, ◌&&◌, All, IfOk, IfSome, if◌then◌else◌, length, map, option_map, option_to_list};
 ghost use Rattle.std.specs.Option.{is_some};
+ghost use Rattle.log_queues.specs.Pages.{IsUncut};
 ghost use Rattle.publisher.specs.Sights.{fresh};
 ghost use Rattle.omaha_server.specs.Jobs.{IsManned};
-ghost use Rattle.log_queues.specs.Pages.{IsUncut};
 ghost use Rattle.omaha_server.specs.Logging.{AreOpened, Both, FitOutlets, senders_of};
 ghost use Rattle.systems.specs.NewPorts.{IsNew};
 ghost use Rattle.omaha_server.specs.OperatorPorts.{has_operator, terms_left};

@@ -6,7 +6,7 @@ ghost use Rattle.http_ports.specs.Speech.{one_if};
 ghost use Rattle.log_queues.specs.Pages.{IsUncut};
 ghost use Rattle.publisher.specs.Sights.{fresh};
 ghost use Rattle.omaha_server.specs.Jobs.{IsManned};
-ghost use Rattle.omaha_server.specs.Logging.{AreLogged, AreOpened, Both, FitOutlets, IsWritten, senders_of, unless};
+ghost use Rattle.omaha_server.specs.Logging.{AreLogged, AreOpened, Both, FitOutlets, IsFilled, senders_of, unless};
 ghost use Rattle.omaha_server.specs.Passages.{passages_of};
 ghost use Rattle.omaha_server.specs.Runs.{HasServed};
 ghost use Rattle.omaha_server.specs.Serving.{AreTotals, IsLater, Stops, begun};
@@ -72,7 +72,7 @@ where
         (passages_of P.terms P.slots P.accepted made.0.ports) made.0.totals.items) }
     ensures replies { IfOk result (λ made. AreLogged (is_some setup.now.place.now.log)
         (passages_of P.terms P.slots P.accepted made.0.ports) (map (λ ended. ended.sent) made.0.ports.log)) }
-    ensures page { IfOk result (λ made. Both (λ writing page. IsWritten F.output (one_if (is_some setup.now.place.now.named))
+    ensures page { IfOk result (λ made. Both (λ writing page. IsFilled F.output (one_if (is_some setup.now.place.now.named))
         (unless (is_some writings.entry.file) (map (λ ended. ended.sent) made.0.ports.log)) writing.page page) writings.entry.errors made.1) }
     ensures err { IfErr result (λ error. (error ≡ Thread) ⊎ (error ≡ RoomLeft) ⊎ (error ≡ Unpublished) ⊎ (error ≡ EndedEarly) ⊎ (error ≡ Memory)) }
 {
@@ -85,6 +85,7 @@ where
     let ended = ends_of(rt.alloc(), ran)?;
     let (run, senders) = published_run(rt.alloc(), ended)?;
     let (here, filed) = by_page(rt.alloc(), file.is_some(), senders);
+    // Nobody knows what the file has: the system opened it.
     let _ = finish_writing(rt, file, filed);
     Ok((run, finish_writing(rt, errors, here)))
 }
@@ -115,7 +116,7 @@ fn run_jobs<
         (passages_of P.terms P.slots P.accepted made.0.ports) made.0.totals.items) }
     ensures replies { IfOk result (λ made. AreLogged (is_some setup.now.place.now.log)
         (passages_of P.terms P.slots P.accepted made.0.ports) (map (λ ended. ended.sent) made.0.ports.log)) }
-    ensures page { IfOk result (λ made. Both (λ writing page. IsWritten F.output (one_if (is_some setup.now.place.now.named))
+    ensures page { IfOk result (λ made. Both (λ writing page. IsFilled F.output (one_if (is_some setup.now.place.now.named))
         (unless (is_some writings.entry.file) (map (λ ended. ended.sent) made.0.ports.log)) writing.page page) writings.entry.errors made.1) }
     ensures err { IfErr result (λ error. (error ≡ Thread) ⊎ (error ≡ RoomLeft) ⊎ (error ≡ Unpublished) ⊎ (error ≡ EndedEarly) ⊎ (error ≡ Memory)) }
 {
@@ -135,20 +136,20 @@ fn run_jobs<
                 (passages_of P.terms P.slots P.accepted made.0.ports) made.0.totals.items) }
             ensures replies { IfOk result.0 (λ made. AreLogged (is_some setup.entry.now.place.now.log)
                 (passages_of P.terms P.slots P.accepted made.0.ports) (map (λ ended. ended.sent) made.0.ports.log)) }
-            ensures page { IfOk result.0 (λ made. Both (λ writing page. IsWritten F.output (one_if (is_some setup.entry.now.place.now.named))
+            ensures page { IfOk result.0 (λ made. Both (λ writing page. IsFilled F.output (one_if (is_some setup.entry.now.place.now.named))
                 (unless (is_some writings.entry.file) (map (λ ended. ended.sent) made.0.ports.log)) writing.page page) writings.entry.errors made.1) }
             ensures err { IfErr result.0 (λ error. (error ≡ Thread) ⊎ (error ≡ RoomLeft) ⊎ (error ≡ Unpublished) ⊎ (error ≡ EndedEarly) ⊎ (error ≡ Memory)) }
         {
             let made = run_within(scope, setup, gate, mirrors, jobs, own, writings);
-            // The page may be given back only with the other reference that the closure holds.
+            // No proof is generated if the page alone, and not the other reference too, leaves the closure.
             (made, own)
         },
     );
     made
 }
 
-/// Serves at the addresses of a place whose folder was found, over an edition that was published, and ends its press. What
-/// lines are written to on the standard error is there again if it comes to its end.
+/// Serves at the addresses of a place whose folder was found, over an edition that was published, and ends its press. If it
+/// succeeds, the outlets have the page of the standard error again.
 pub(crate) fn serve_press<
     P: Port + Send + Drop,
     S: System<P> + Sync,
@@ -178,7 +179,7 @@ pub(crate) fn serve_press<
         (passages_of P.terms P.slots P.accepted run.ports) run.totals.items) }
     ensures replies { IfOk result (λ run. AreLogged (is_some setup.now.place.now.log)
         (passages_of P.terms P.slots P.accepted run.ports) (map (λ ended. ended.sent) run.ports.log)) }
-    ensures page { IfOk result (λ run. Both (IsWritten F.output (one_if (is_some setup.now.place.now.named))
+    ensures page { IfOk result (λ run. Both (IsFilled F.output (one_if (is_some setup.now.place.now.named))
         (unless (is_some outlets.old.file) (map (λ ended. ended.sent) run.ports.log))) outlets.old.errors outlets.new.errors) }
     ensures err { IfErr result (λ error. IsLater error
         × Stops (S.edges setup.now.system.now) setup.now.place.now (O.output out.old) (O.output out.new) error) }

@@ -6,7 +6,7 @@ ghost use Rattle.access_logs.specs.Logs.{IsFresh};
 ghost use Rattle.http_ports.specs.Speech.{one_if};
 ghost use Rattle.log_queues.specs.Pages.{IsUncut};
 ghost use Rattle.log_queues.specs.Queues.{HaveEnded};
-ghost use Rattle.omaha_server.specs.Logging.{AreOpened, Both, FitOutlets, IsWritten, unless};
+ghost use Rattle.omaha_server.specs.Logging.{AreOpened, Both, FitOutlets, IsFilled, unless};
 ghost use Rattle.omaha_server.specs.declared.error.ServerError.TheVariants.{Thread};
 
 use crate::error::ServerError;
@@ -142,8 +142,8 @@ fn part_last<T: Drop>(senders: Vec<T>, is_parted: bool) -> (Vec<T>, Option<T>)
     (senders, last)
 }
 
-/// Opens the lines of a server: its replies', if they are logged, and what it says of itself, which it has sent to the
-/// standard error. It takes the pages.
+/// Opens the lines of a server: its replies', if they are logged, and what it says of itself, whose lines go to the standard
+/// error. It takes the pages, also if it fails.
 pub(crate) fn open_outlets<'p, S, R: Wait + AllocGlobal, F: WriteWhole + Send>(
     setup: &Setup<'_, S, R>,
     outlets: &mut Outlets<'p, F>,
@@ -191,15 +191,15 @@ where
     }
 }
 
-/// Ends the thread of what writes lines, if there is one, whose first senders have ended, and gives the page back, with all
-/// that they have sent.
+/// Ends the thread of what writes lines, if there is one, once the log's first senders have ended, and gives the page back:
+/// all that they have sent was received and, unless a write failed, written.
 pub(crate) fn finish_writing<'p, R: Threads + Wait, F: WriteWhole + Send>(
     rt: &R,
     thread: Option<WriterThread<'_, 'p, R, F>>,
     ended: Vec<EndedSender>,
 ) -> Option<Page<'p, F>>
     requires ended { IfSome thread (λ thread. HaveEnded thread.began.value.opened.value.items ended.items) }
-    ensures written { Both (λ thread page. IsWritten F.output (length thread.began.value.opened.value.items - length ended.items)
+    ensures written { Both (λ thread page. IsFilled F.output (length thread.began.value.opened.value.items - length ended.items)
         (map (λ sender. sender.sent) ended.items) thread.began.value.page page) thread.entry result }
 {
     match thread {

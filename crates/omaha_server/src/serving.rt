@@ -6,7 +6,7 @@ ghost use Rattle.http_ports.specs.Speech.{one_if};
 ghost use Rattle.log_queues.specs.Pages.{IsUncut};
 ghost use Rattle.log_queues.specs.Queues.{IsWhole};
 ghost use Rattle.publisher.specs.Sights.{fresh};
-ghost use Rattle.omaha_server.specs.Logging.{AreLogged, Both, FitOutlets, IsLoggedHere, IsWritten, file_of, is_dash, unless};
+ghost use Rattle.omaha_server.specs.Logging.{AreLogged, Both, FitOutlets, IsLoggedHere, IsFilled, file_of, is_dash, unless};
 ghost use Rattle.omaha_server.specs.Checking.{IsChecked, IsLackOf};
 ghost use Rattle.omaha_server.specs.Checks.{IsStockedFor};
 ghost use Rattle.omaha_server.specs.Passages.{passages_in, passages_of};
@@ -133,7 +133,7 @@ fn serve_found<
         (passages_in P.terms P.slots P.accepted result) }
     ensures replies { IfOk result (λ ports. AreLogged (is_some setup.now.place.now.log)
         (passages_of P.terms P.slots P.accepted ports) (map (λ ended. ended.sent) ports.log)) }
-    ensures page { IfOk result (λ ports. Both (IsWritten F.output (one_if (is_some setup.now.place.now.named))
+    ensures page { IfOk result (λ ports. Both (IsFilled F.output (one_if (is_some setup.now.place.now.named))
         (unless (is_some outlets.old.file) (map (λ ended. ended.sent) ports.log))) outlets.old.errors outlets.new.errors) }
     ensures later { IfErr result IsLater }
 {
@@ -178,7 +178,7 @@ fn serve_with<
         (passages_in P.terms P.slots P.accepted result) }
     ensures replies { IfOk result (λ ports. AreLogged (is_some setup.now.place.now.log)
         (passages_of P.terms P.slots P.accepted ports) (map (λ ended. ended.sent) ports.log)) }
-    ensures page { IfOk result (λ ports. Both (IsWritten F.output (one_if (is_some setup.now.place.now.named))
+    ensures page { IfOk result (λ ports. Both (IsFilled F.output (one_if (is_some setup.now.place.now.named))
         (unless (is_some outlets.old.file) (map (λ ended. ended.sent) ports.log))) outlets.old.errors outlets.new.errors) }
     ensures unlogged { IfErr result IsUnlogged }
     ensures stocked { IsStockedFor (S.edges setup.now.system.now) setup.now.place.now kept.service.edition
@@ -211,7 +211,7 @@ fn file_of(log: &Option<Text>) -> Option<&str>
 }
 
 // rule: Standard error of a server
-// Serves a service that logs its replies on the standard error, if it does, and has no file for them.
+// Serves a service that has no file for its log, and writes on the standard error.
 fn serve_here<
     P: Port + Send + Drop,
     S: System<P> + Sync,
@@ -254,7 +254,7 @@ fn serve_here<
     Ok(ports)
 }
 
-// Serves a service that logs its replies in a file, and says of itself on the standard error what it does.
+// Serves a service that logs its replies in a file, and says on the standard error what it does.
 fn serve_beside<
     P: Port + Send + Drop,
     S: System<P> + Sync,
@@ -371,8 +371,8 @@ fn traffic_of(alloc: Global, workers: usize, service: &Service) -> Traffic {
 ///
 /// The log gets a line for each reply, as `access_logs` has it, at the end of its file, or on `errors`, which is
 /// otherwise left as it is; workers never mix their lines. A line that can't be written is lost, and holds up no reply. What
-/// was sent to the log is given back with the ports; `errors` then has all of it, if it is the log, beside what the server
-/// says of itself, and nothing else.
+/// was sent to the log is given back with the ports. If `errors` is the log, all of it was received and written there, but
+/// for what a write failed to write; beside it is only what the server says of itself.
 ///
 /// If the place has a name, the server says of itself on `errors`, in lines that begin with `omaha: `, what it serves,
 /// which packages are not in the folder, what is published and raised, which package kept a script from being
