@@ -218,6 +218,21 @@ IsLater server.EndedEarly = ⊤
 IsLater server.Write = ⊤
 IsLater server.Memory = ⊤
 
+-- an error that comes before a line is sent to a log
+abbrev pub IsEarly : ServerError → Type 0
+IsEarly server.Net = ⊤
+IsEarly server.OperatorNet = ⊤
+IsEarly server.Log = ⊤
+IsEarly server.Folder = ⊤
+IsEarly (server.Package name what) = ⊤
+IsEarly server.NoPlace = ⊤
+IsEarly server.Thread = ⊥
+IsEarly server.RoomLeft = ⊥
+IsEarly server.Unpublished = ⊥
+IsEarly server.EndedEarly = ⊥
+IsEarly server.Write = ⊥
+IsEarly server.Memory = ⊥
+
 -- the log of that path was opened, or the server ended before
 abbrev pub IsOpened : {A : Type 0} → Edges → List ℕ → Result A ServerError → Type 0
 IsOpened edges path (Err server.Log) = ⊤

@@ -9,7 +9,7 @@ ghost use Rattle.omaha_server.specs.Jobs.{IsManned};
 ghost use Rattle.omaha_server.specs.Logging.{AreLogged, AreOpened, Both, FitOutlets, IsFilled, senders_of, unless};
 ghost use Rattle.omaha_server.specs.Passages.{passages_of};
 ghost use Rattle.omaha_server.specs.Runs.{HasServed};
-ghost use Rattle.omaha_server.specs.Serving.{AreTotals, IsLater, Stops, begun};
+ghost use Rattle.omaha_server.specs.Serving.{AreTotals, IsEarly, IsLater, Stops, begun};
 ghost use Rattle.omaha_server.specs.declared.error.ServerError.TheVariants.{Memory, RoomLeft, Thread, Unpublished, EndedEarly};
 
 use crate::clients::Clients;
@@ -183,6 +183,7 @@ pub(crate) fn serve_press<
         (unless (is_some outlets.old.file) (map (λ ended. ended.sent) run.ports.log))) outlets.old.errors outlets.new.errors) }
     ensures err { IfErr result (λ error. IsLater error
         × Stops (S.edges setup.now.system.now) setup.now.place.now (O.output out.old) (O.output out.new) error) }
+    ensures early { IfErr result (λ error. IsEarly error → outlets.new ≡ outlets.old) }
 {
     let rt = setup.rt;
     let ports = match open_place(rt.alloc(), setup.system, setup.place, out) {

@@ -11,7 +11,7 @@ ghost use Rattle.omaha_server.specs.Checking.{IsChecked, IsLackOf};
 ghost use Rattle.omaha_server.specs.Checks.{IsStockedFor};
 ghost use Rattle.omaha_server.specs.Passages.{passages_in, passages_of};
 ghost use Rattle.omaha_server.specs.Runs.{PrintsLines};
-ghost use Rattle.omaha_server.specs.Serving.{IsLater, IsLogged, IsOpened, IsSilent, IsUnlogged, Serves, begun};
+ghost use Rattle.omaha_server.specs.Serving.{IsEarly, IsLater, IsLogged, IsOpened, IsSilent, IsUnlogged, Serves, begun};
 ghost use Rattle.omaha_server.specs.declared.error.ServerError.TheVariants.{Memory, NoPlace};
 
 use crate::checking::SystemFolder;
@@ -136,6 +136,7 @@ fn serve_found<
     ensures page { IfOk result (λ ports. Both (IsFilled F.output (one_if (is_some setup.now.place.now.named))
         (unless (is_some outlets.old.file) (map (λ ended. ended.sent) ports.log))) outlets.old.errors outlets.new.errors) }
     ensures later { IfErr result IsLater }
+    ensures early { IfErr result (λ error. IsEarly error → outlets.new ≡ outlets.old) }
 {
     let (rt, place) = (setup.rt, setup.place);
     if setup.traffic.is_short() {
@@ -181,6 +182,7 @@ fn serve_with<
     ensures page { IfOk result (λ ports. Both (IsFilled F.output (one_if (is_some setup.now.place.now.named))
         (unless (is_some outlets.old.file) (map (λ ended. ended.sent) ports.log))) outlets.old.errors outlets.new.errors) }
     ensures unlogged { IfErr result IsUnlogged }
+    ensures early { IfErr result (λ error. IsEarly error → outlets.new ≡ outlets.old) }
     ensures stocked { IsStockedFor (S.edges setup.now.system.now) setup.now.place.now kept.service.edition
         (O.output out.old) (O.output out.new) result }
 {
@@ -235,6 +237,7 @@ fn serve_here<
         (passages_of P.terms P.slots P.accepted ports) (map (λ ended. ended.sent) ports.log)) }
     ensures page { IfOk result (λ ports. IsWhole (one_if (is_some setup.now.place.now.named)) (map (λ ended. ended.sent) ports.log)
         (F.output errors.old) (F.output errors.new)) }
+    ensures early { IfErr result (λ error. IsEarly error → F.output errors.new ≡ F.output errors.old) }
     ensures stocked { IsStockedFor (S.edges setup.now.system.now) setup.now.place.now kept.service.edition
         (O.output out.old) (O.output out.new) result }
 {
@@ -242,16 +245,17 @@ fn serve_here<
         errors: Some(Page::new(errors)),
         file: None,
     };
-    let ports = serve_with(setup, kept, gate, out, &mut outlets)?;
+    let ended = serve_with(setup, kept, gate, out, &mut outlets);
     let Outlets {
         errors: page,
         file: _,
     } = outlets;
-    let Some(page) = page else { unreachable!() };
-    let written = page.into_inner();
-    // No effect at run time. The proof reads what was written from this use of it.
-    let _ = &*written;
-    Ok(ports)
+    if let Some(page) = page {
+        let written = page.into_inner();
+        // No effect at run time. The proof reads what was written from this use of it.
+        let _ = &*written;
+    }
+    ended
 }
 
 // Serves a service that logs its replies in a file, and says on the standard error what it does.
@@ -279,6 +283,7 @@ fn serve_beside<
     ensures replies { IfOk result (λ ports. AreLogged (is_some setup.now.place.now.log)
         (passages_of P.terms P.slots P.accepted ports) (map (λ ended. ended.sent) ports.log)) }
     ensures page { IfOk result (λ ports. IsWhole (one_if (is_some setup.now.place.now.named)) [] (F.output errors.old) (F.output errors.new)) }
+    ensures early { IfErr result (λ error. IsEarly error → F.output errors.new ≡ F.output errors.old) }
     ensures stocked { IsStockedFor (S.edges setup.now.system.now) setup.now.place.now kept.service.edition
         (O.output out.old) (O.output out.new) result }
 {
@@ -289,16 +294,17 @@ fn serve_beside<
         errors: Some(Page::new(errors)),
         file: Some(Page::new(&mut file)),
     };
-    let ports = serve_with(setup, kept, gate, out, &mut outlets)?;
+    let ended = serve_with(setup, kept, gate, out, &mut outlets);
     let Outlets {
         errors: page,
         file: _,
     } = outlets;
-    let Some(page) = page else { unreachable!() };
-    let written = page.into_inner();
-    // No effect at run time. The proof reads what was written from this use of it.
-    let _ = &*written;
-    Ok(ports)
+    if let Some(page) = page {
+        let written = page.into_inner();
+        // No effect at run time. The proof reads what was written from this use of it.
+        let _ = &*written;
+    }
+    ended
 }
 
 // Serves a service that writes nothing on the standard error.
@@ -406,6 +412,7 @@ pub fn serve<
     ensures silent { IsSilent place.now → errors.new ≡ errors.old }
     ensures lines { IfOk result (λ ports. IsLoggedHere place.now (map (λ ended. ended.sent) ports.log)
         (F.output errors.old) (F.output errors.new)) }
+    ensures early { IfErr result (λ error. IsEarly error → F.output errors.new ≡ F.output errors.old) }
 {
     let notes = Mutex::new(Notes::new(rt.alloc()));
     let ending = Ending::new(place.workers);
