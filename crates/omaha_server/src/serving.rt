@@ -320,8 +320,10 @@ fn serve_silently<
     kept: KeptService<K>,
     gate: &G,
     out: &mut O,
+    path: Option<&str>,
 ) -> Result<ServedPorts<P>, ServerError>
     requires silent { IsSilent setup.now.place.now }
+    requires path { option_copied path ≡ file_of setup.now.place.now.log }
     ensures serves { Serves (S.edges setup.now.system.now) setup.now.place.now kept.service
         (begun kept.service.edition (K.first kept.records) (K.kept kept.records)).store (O.output out.old) (O.output out.new)
         (passages_in P.terms P.slots P.accepted result) }
@@ -331,14 +333,14 @@ fn serve_silently<
     ensures stocked { IsStockedFor (S.edges setup.now.system.now) setup.now.place.now kept.service.edition
         (O.output out.old) (O.output out.new) result }
 {
-    let Some(path) = &setup.place.log else {
+    let Some(path) = path else {
         let mut outlets = Outlets {
             errors: None::<Page<'_, File>>,
             file: None,
         };
         return serve_with(setup, kept, gate, out, &mut outlets);
     };
-    let Ok(mut file) = setup.system.open_log(path.as_str()) else {
+    let Ok(mut file) = setup.system.open_log(path) else {
         return Err(ServerError::Log);
     };
     let mut outlets = Outlets {
@@ -368,7 +370,7 @@ fn traffic_of(alloc: Global, workers: usize, service: &Service) -> Traffic {
 ///
 /// Fails, in this order, with the log, the folder, the first package that isn't there, memory, no place for a view, the
 /// address, the operator's address, the output, and a thread that can't be started; in that case no connection was
-/// accepted. Memory may also run out after `ready`; then no total is printed. Nor is one if bytes were rejected for which a
+/// accepted, and `errors` is as it was, unless memory, the output or a thread failed. Memory may also run out after `ready`; then no total is printed. Nor is one if bytes were rejected for which a
 /// mirror has room, by its total and its first budget, if a worker's view at its end is not of what the operator
 /// published, or if a port ended early though nobody asked the server to end. No test has seen one of the three.
 ///
@@ -429,6 +431,6 @@ pub fn serve<
     match file_of(&place.log) {
         Some(path) if is_named => serve_beside(&setup, kept, gate, out, errors, path),
         None if is_named || place.log.is_some() => serve_here(&setup, kept, gate, out, errors),
-        _ => serve_silently(&setup, kept, gate, out),
+        path => serve_silently(&setup, kept, gate, out, path),
     }
 }
