@@ -370,9 +370,10 @@ fn traffic_of(alloc: Global, workers: usize, service: &Service) -> Traffic {
 ///
 /// Fails, in this order, with the log, the folder, the first package that isn't there, memory, no place for a view, the
 /// address, the operator's address, the output, and a thread that can't be started; in that case no connection was
-/// accepted, and `errors` is as it was, unless memory, the output or a thread failed. Memory may also run out after `ready`; then no total is printed. Nor is one if bytes were rejected for which a
-/// mirror has room, by its total and its first budget, if a worker's view at its end is not of what the operator
-/// published, or if a port ended early though nobody asked the server to end. No test has seen one of the three.
+/// accepted, and `errors` is as it was, unless memory, the output or a thread failed. Memory may also run out after
+/// `ready`; then no total is printed. Nor is one if bytes were rejected for which a mirror has room, by its total and
+/// its first budget, if a worker's view at its end is not of what the operator published, or if a port ended early
+/// though nobody asked the server to end. No test has seen one of the three.
 ///
 /// The operator may ask the server to end: then the workers' ports accept no more connections, end those on which no
 /// message has begun, and reply to the messages that have; and then the operator's port ends.
