@@ -16,6 +16,7 @@ mod PlaceLemmas
 mod PlanLemmas
 mod PresentLemmas
 mod ProgressLemmas
+mod RaiseLemmas
 mod RejectionLemmas
 mod RequestLemmas
 mod RestartLemmas

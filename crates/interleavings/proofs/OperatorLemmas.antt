@@ -1,6 +1,6 @@
 -- The calls of an operator's desk as events.
-use Rattle.std.proofs.Common.{◌≡◌, ◌⊎◌, ◌∙◌, ℕ, zero, suc, ◌+◌, ◌-◌, ◌≤◌, true, All, IfSome, option_to_list, unwrap_or, List, [], ◌∷◌, cond, length, nat_lt, not, Option, Some, None, Result, Ok, Err, inl, inr, ap, ap₂, arith, refl, subst, sym}
-use Rattle.std.specs.List.{AllByRecursion, AllZip, position, position_or_len}
+use Rattle.std.proofs.Common.{◌≡◌, ◌⊎◌, ◌∙◌, ℕ, suc, ◌+◌, ◌-◌, ◌≤◌, true, All, IfSome, option_to_list, unwrap_or, List, [], ◌∷◌, cond, length, nat_lt, not, Option, Some, None, Result, Ok, Err, inl, inr, ap, ap₂, arith, refl, subst, sym}
+use Rattle.std.specs.List.{AllByRecursion, position, position_or_len}
 use Rattle.std.specs.Str.{bytes_eq}
 use Rattle.std.specs.Str.Parse.{digits_value}
 use Rattle.std.proofs.lemmas.List.Elements.{All-from_recursion}
@@ -28,7 +28,6 @@ use Rattle.service_desks.specs.Raises.{Funds, IsReplyToRaise, RaisesBy, left_by 
 use Rattle.service_desks.specs.Scripts.{IsAhead, IsScriptReply, Performs, left_by}
 use Rattle.service_desks.specs.States.{Publication, State, Store, earlier_in, publication_of, settled}
 use Rattle.interleavings.specs.Events.{Event, Publish, Raise, happens, run}
-use Rattle.interleavings.specs.Restart.{IsRaised, OperatorsOnlyRaise}
 use Rattle.interleavings.specs.Services.{Service, present, published, with_budgets_of}
 use Rattle.interleavings.specs.Ties.{IsDueAfter, IsOperatorStep, OperatorCallsAreEvents, RaisesByNameAreEvents, is_of_operator, state_of}
 use Rattle.interleavings.proofs.PresentLemmas.{present-lower, present-raised}
@@ -69,7 +68,7 @@ raises_by_name_are_events mirrors service new name budget (Err (fault.Lower now)
     )
 
 -- what an operator makes of the mirrors, and of the history
-abbrev MirrorsBy : List Mirror → List Mirror → Type 0
+abbrev pub MirrorsBy : List Mirror → List Mirror → Type 0
 MirrorsBy old new =
     (new ≡ old) ⊎ ((index : ℕ) × (budget : ℕ) × (budget_at old index ≤ budget) × (new ≡ raise_at old index budget))
 
@@ -80,7 +79,7 @@ HistoryBy old new = (new ≡ old) ⊎ ((known : ℕ) × (batch : List Edit) × (
 abbrev SettlesBy : Option History → History → History → Type 0
 SettlesBy due old new = (new ≡ old) ⊎ ((batch : List Edit) × (due ≡ Some new) × (new ≡ published old (length old) batch))
 
-mirrors-raise : (old new : List Mirror) (name : List ℕ) (budget : ℕ) (result : Result (Unit {0}) RaiseError) →
+pub mirrors-raise : (old new : List Mirror) (name : List ℕ) (budget : ℕ) (result : Result (Unit {0}) RaiseError) →
     RaisesTo old new name budget result → MirrorsBy old new
 mirrors-raise old new name budget (Ok done) raises =
     let (index, at, few, low, same) = raises in inr (index, budget, low, same)
@@ -97,7 +96,7 @@ mirrors-reply old new body (Some asked) reply (inl raised) =
 mirrors-reply old new body (Some asked) reply (inr (unkept, same)) = inl (ap (λ (f : Funds). f.0) same)
 mirrors-reply old new body None reply none = inl (ap (λ (f : Funds). f.0) none.1)
 
-mirrors-raising : (old new : Funds) (body : List ℕ) (answer : Result (DeskStatus × List ℕ) Off) →
+pub mirrors-raising : (old new : Funds) (body : List ℕ) (answer : Result (DeskStatus × List ℕ) Off) →
     RaisesBy old new body answer → MirrorsBy old.0 new.0
 mirrors-raising old new body (Ok reply) raises = mirrors-reply old new body (raise_of body) reply raises
 mirrors-raising old new body (Err off.Memory) same = inl (ap (λ (f : Funds). f.0) same)
@@ -462,88 +461,3 @@ pub operator_calls_are_events : OperatorCallsAreEvents
 operator_calls_are_events mirrors service store call after follows called =
     let calls = calls-on (state_of mirrors service store) after call follows called in
     step-either mirrors service store after calls.follows calls.by
-
--- what an operator's call makes of the mirrors
-mirrors-taken : (before after : State) (kind : Kind) (bytes : List ℕ) → AdoptsAs kind bytes (settled_state before) after →
-    MirrorsBy before.mirrors after.mirrors
-mirrors-taken before after kind.Profile bytes never = absurd never
-mirrors-taken before after kind.Script bytes (next, script, left) = inl (ap (λ (s : State). s.mirrors) left)
-mirrors-taken before after kind.Raise bytes ((asked, is, raised), history, store) =
-    mirrors-raise before.mirrors after.mirrors asked.0 (digits_value 10 asked.1) (Ok tt) raised
-
-mirrors-short : (before after : State) (off : Off) → StopsShort (settled_state before) off after →
-    MirrorsBy before.mirrors after.mirrors
-mirrors-short before after off.Memory (inl same) = inl (ap (λ (s : State). s.mirrors) same)
-mirrors-short before after off.Memory (inr (inl is)) = inl (ap (λ (s : State). s.mirrors) is.left)
-mirrors-short before after off.Memory (inr (inr adopted)) =
-    mirrors-taken before after adopted.entry.kind adopted.entry.bytes adopted.adopts
-mirrors-short before after off.Closed same = inl (ap (λ (s : State). s.mirrors) same)
-
-mirrors-early : (before after : State) (off : Off) → StopsEarly before off after → MirrorsBy before.mirrors after.mirrors
-mirrors-early before after off.Memory (inl same) = inl (ap (λ (s : State). s.mirrors) same)
-mirrors-early before after off.Memory (inr stops) = mirrors-short before after off.Memory stops
-mirrors-early before after off.Closed stops = mirrors-short before after off.Closed stops
-
-mirrors-follow : (before after : State) (answer : Result (DeskStatus × List ℕ) Off) → Follows before answer after →
-    MirrorsBy before.mirrors after.mirrors
-mirrors-follow before after (Ok reply) (inl (adopted, is)) =
-    mirrors-taken before after adopted.entry.kind adopted.entry.bytes adopted.adopts
-mirrors-follow before after (Ok reply) (inr (inl (same, is))) = inl (ap (λ (s : State). s.mirrors) same)
-mirrors-follow before after (Ok reply) (inr (inr (same, is))) = inl (ap (λ (s : State). s.mirrors) same)
-mirrors-follow before after (Err off) stops = mirrors-early before after off stops
-
-mirrors-way : (before after : State) (answer : Result (DeskStatus × List ℕ) Off) → GivesWay before answer after →
-    MirrorsBy before.mirrors after.mirrors
-mirrors-way before after (Ok reply) (inl (adopted, is)) =
-    mirrors-taken before after adopted.entry.kind adopted.entry.bytes adopted.adopts
-mirrors-way before after (Ok reply) (inr (same, is)) = inl (ap (λ (s : State). s.mirrors) same)
-mirrors-way before after (Err off) stops = mirrors-early before after off stops
-
-mirrors-call : (before after : State) (call : Call) → IsCall before call after → MirrorsBy before.mirrors after.mirrors
-mirrors-call before after (Looks name found) looked = inl (ap (λ (s : State). s.mirrors) looked.1)
-mirrors-call before after (Shows at page) shown = inl (ap (λ (s : State). s.mirrors) shown.1)
-mirrors-call before after (Asks body moment answer) (inl (word, dumps, same)) = inl (ap (λ (s : State). s.mirrors) same)
-mirrors-call before after (Asks body moment answer) (inr (inl (word, is))) = mirrors-follow before after answer is
-mirrors-call before after (Asks body moment answer) (inr (inr (inl (word, inl (raises, same))))) =
-    mirrors-raising (before.mirrors, before.store) (after.mirrors, after.store) body answer raises
-mirrors-call before after (Asks body moment answer) (inr (inr (inl (word, inr way)))) = mirrors-way before after answer way
-mirrors-call before after (Asks body moment answer) (inr (inr (inr (dump, follow, raise, inl (performs, same))))) = inl same
-mirrors-call before after (Asks body moment answer) (inr (inr (inr (dump, follow, raise, inr way)))) =
-    mirrors-way before after answer way
-
--- mirrors whose budgets are no less, one raise after the other
-as-before : (mirrors : List Mirror) → AllZip IsRaised mirrors mirrors
-as-before [] = tt
-as-before (mirror ∷ mirrors) = (record { name = refl; codebase = refl; from = omega arith }, as-before mirrors)
-
-raised-by : (mirrors : List Mirror) (index budget : ℕ) → budget_at mirrors index ≤ budget → AllZip IsRaised mirrors (raise_at mirrors index budget)
-raised-by [] index budget low = tt
-raised-by (mirror ∷ mirrors) zero budget low = (record { name = refl; codebase = refl; from = low }, as-before mirrors)
-raised-by (mirror ∷ mirrors) (suc index) budget low =
-    (record { name = refl; codebase = refl; from = omega arith }, raised-by mirrors index budget low)
-
-then-raised : (one two three : List Mirror) → AllZip IsRaised one two → AllZip IsRaised two three → AllZip IsRaised one three
-then-raised [] [] [] first second = tt
-then-raised [] [] (c ∷ three) first second = absurd second
-then-raised [] (b ∷ two) three first second = absurd first
-then-raised (a ∷ one) [] three first second = absurd first
-then-raised (a ∷ one) (b ∷ two) [] first second = absurd second
-then-raised (a ∷ one) (b ∷ two) (c ∷ three) first second = (
-  record {
-    name = second.0.name ∙ first.0.name;
-    codebase = second.0.codebase ∙ first.0.codebase;
-    from = omega (arith, first.0.from, second.0.from);
-  },
-  then-raised one two three first.1 second.1,
-)
-
-raised-mirrors : (old new : List Mirror) → MirrorsBy old new → AllZip IsRaised old new
-raised-mirrors old new (inl same) = subst (AllZip IsRaised old) (sym same) (as-before old)
-raised-mirrors old new (inr (index, budget, low, same)) = subst (AllZip IsRaised old) (sym same) (raised-by old index budget low)
-
-pub operators_only_raise : OperatorsOnlyRaise
-operators_only_raise before after [] same =
-    subst (λ (s : State). AllZip IsRaised before.mirrors s.mirrors) (sym same) (as-before before.mirrors)
-operators_only_raise before after (call ∷ calls) (next, called, leads) =
-    then-raised before.mirrors next.mirrors after.mirrors (raised-mirrors before.mirrors next.mirrors (mirrors-call before next call called))
-    (operators_only_raise next after calls leads)

@@ -40,7 +40,7 @@ use Rattle.interleavings.specs.Jobs.{outcomes_of}
 use Rattle.interleavings.specs.Moves.{rendered_at}
 use Rattle.interleavings.specs.Restart.{DumpsAreProfiles, IsRaised, RestartsKeepReplies, ServicesOpenAgain}
 use Rattle.interleavings.specs.Services.{content_at, present, with_budgets_of}
-use Rattle.interleavings.proofs.OperatorLemmas.{operators_only_raise}
+use Rattle.interleavings.proofs.RaiseLemmas.{operators_only_raise}
 use Rattle.interleavings.proofs.PresentLemmas.{budget_at-present}
 
 pub dumps_are_profiles : DumpsAreProfiles

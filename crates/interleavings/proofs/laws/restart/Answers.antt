@@ -1,4 +1,4 @@
-use Rattle.interleavings.proofs.OperatorLemmas.{operators_only_raise}
+use Rattle.interleavings.proofs.RaiseLemmas.{operators_only_raise}
 use Rattle.interleavings.proofs.RestartLemmas.{dumps_are_profiles, restarts_keep_replies, services_open_again}
 use Rattle.interleavings.proofs.laws.restart.Goals as goal
 
