@@ -11,7 +11,7 @@ use std::alloc::Global;
 use std::marker::Model;
 use std::net::{Net, TcpListener, TcpStream};
 use std::time::{Clock, Duration};
-use traces::Trace;
+use streams::Trace;
 use update_client::{Reply, post_to};
 use values::{Items, Text};
 

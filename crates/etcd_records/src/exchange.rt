@@ -4,7 +4,7 @@ ghost use Rattle.std.specs.Prelude.{◌≡◌};
 ghost use Rattle.etcd_records.specs.Exchanges.{exchange_of, outcome_of};
 
 use crate::gateway::{GatewayFault, Response};
-use traces::Trace;
+use streams::Trace;
 
 /// What came of a request, of which contracts alone see the bytes.
 #[derive(Drop)]

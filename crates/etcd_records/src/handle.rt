@@ -7,7 +7,7 @@ ghost use Rattle.kept_records.specs.Keeping.{record_of};
 use crate::gateway::Gateway;
 use kept_records::Kind;
 use std::marker::Model;
-use traces::Trace;
+use streams::Trace;
 use values::Text;
 
 /// A record, of which contracts alone see the bytes.

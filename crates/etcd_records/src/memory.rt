@@ -9,7 +9,7 @@ use crate::requests::{RANGE_PATH, TXN_PATH};
 use serde_json::Value;
 use std::alloc::{AllocError, Global};
 use std::cell::RefCell;
-use traces::Trace;
+use streams::Trace;
 use values::{Items, Text};
 
 /// What happens to a request in memory.

@@ -8,7 +8,7 @@ use crate::gateway::Gateway;
 use crate::handle::EtcdRecords;
 use kept_records::{Cause, MAX_RECORDS, OpenFault, ReadFault, Record, Records};
 use std::alloc::Global;
-use traces::Trace;
+use streams::Trace;
 use values::Text;
 
 // What an open reports if a read fails so.

@@ -19,7 +19,7 @@ use crate::statements::{insert, probe};
 use kept_records::{AppendFault, Cause, Kind, MAX_RECORDS, ReadFault, Record, Records};
 use sqlite::Alter;
 use std::alloc::Global;
-use traces::Trace;
+use streams::Trace;
 
 impl<S: Alter> History<S> {
     /// Whether its calls still reach the disk: no failure may have closed the database.

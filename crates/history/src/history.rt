@@ -5,7 +5,7 @@ ghost use Rattle.std.specs.Prelude.{◌≡◌};
 use crate::marks::Mark;
 use sqlite::{Alter, Connection};
 use std::marker::Model;
-use traces::Trace;
+use streams::Trace;
 
 /// Records in a database, which are committed before `append` returns.
 ///

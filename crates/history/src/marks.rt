@@ -5,7 +5,7 @@ ghost use Rattle.kept_records.specs.Keeping.{bytes_in, record_of};
 
 use kept_records::{Kind, Record};
 use std::marker::Model;
-use traces::Trace;
+use streams::Trace;
 
 /// A record, of which contracts alone see the bytes.
 #[derive(Drop)]

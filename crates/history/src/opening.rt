@@ -17,7 +17,7 @@ use crate::statements::{create_table, list};
 use kept_records::{Cause, MAX_RECORDS, OpenFault, Record};
 use sqlite::{Alter, Connection, Row};
 use std::alloc::Global;
-use traces::Trace;
+use streams::Trace;
 
 // The records of rows that were listed, and the number of the first.
 fn read_listed(alloc: Global, rows: &[Row]) -> Result<(u64, Vec<Record>), OpenFault>

@@ -8,7 +8,7 @@ use etcd_records::{
 use history_disks::follows;
 use std::alloc::Global;
 use std::cell::RefCell;
-use traces::Trace;
+use streams::Trace;
 use values::{Items, Text};
 
 // What happens to the requests of a first handle, to those of a second one, and the calls of either: `1` and `2` say

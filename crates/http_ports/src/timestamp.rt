@@ -1,6 +1,6 @@
 ghost use Rattle.std.specs.Prelude.{◌≡◌, option_map};
 
-use traces::Trace;
+use streams::Trace;
 
 /// A timestamp that a port gave for a connection, for contracts alone.
 #[derive(Drop)]

@@ -4,7 +4,7 @@ ghost use Rattle.std.specs.Prelude.{◌≡◌, ◌+◌, ◌≤◌, Some, length,
 ghost use Rattle.std.specs.Io.KnownBytes.{WriteAppends};
 
 use http_wire::{Failed, Sink};
-use traces::Trace;
+use streams::Trace;
 
 // Replies that are made. A write fails only if memory runs out.
 #[derive(Drop)]

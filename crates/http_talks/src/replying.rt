@@ -14,7 +14,7 @@ use http_desks::{
 use http_heads::Status;
 use http_sessions::{Buffers, Found, MAX_MESSAGES};
 use std::alloc::{AllocError, Global};
-use traces::Trace;
+use streams::Trace;
 
 // Whether the connection ends after the reply to a message, after so many others.
 fn closes_after(closes: bool, begun: u32) -> bool

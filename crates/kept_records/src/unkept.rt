@@ -6,7 +6,7 @@ use crate::fault::{AppendFault, ReadFault};
 use crate::record::{Kind, Record};
 use crate::records::Records;
 use std::alloc::Global;
-use traces::Trace;
+use streams::Trace;
 
 // What was appended, without its bytes.
 #[derive(Drop)]

@@ -10,7 +10,7 @@ use http_ports::{Last, Received, Sent};
 use mio::net::TcpStream;
 use port_books::{Book, Change};
 use std::io::{ErrorKind, Read, Write};
-use traces::Trace;
+use streams::Trace;
 
 // How often a call is tried that a signal interrupts.
 const TRIES: u32 = 16;

@@ -1,7 +1,7 @@
 // The ports of a server that was served.
 
 use log_queues::EndedSender;
-use traces::Trace;
+use streams::Trace;
 
 /// A port that was served to its end.
 #[derive(Drop)]

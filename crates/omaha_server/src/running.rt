@@ -17,7 +17,7 @@ use log_queues::EndedSender;
 use mirror_ledger::{BudgetJob, Ran, RunError, TillJob};
 use publisher::{Receipt, may_enter};
 use std::alloc::{AllocError, Global};
-use traces::Trace;
+use streams::Trace;
 
 /// What jobs that all began came to.
 #[derive(Drop)]

@@ -9,7 +9,7 @@ use crate::place::Place;
 use http_ports::trace_waiting;
 use std::alloc::{AllocError, Global};
 use std::mem;
-use traces::Trace;
+use streams::Trace;
 
 /// What is kept of each slot of a port, and what has happened there.
 #[derive(Drop)]

@@ -1,5 +1,5 @@
 use http_ports::Last;
-use traces::Trace;
+use streams::Trace;
 
 /// A change of a slot's connection.
 #[derive(Drop)]

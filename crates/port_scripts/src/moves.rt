@@ -9,7 +9,7 @@ ghost use Rattle.port_scripts.specs.Peers.{Gives, Takes, read_at_end, read_of, t
 use crate::peer::{Finish, Peer};
 use http_ports::{Last, Received, Sent, Timestamp, trace_waiting};
 use std::alloc::{AllocError, Global};
-use traces::Trace;
+use streams::Trace;
 
 impl Peer {
     /// Makes a peer that sends this input in pieces of this length with a pause after each, and then ends it, and takes up

@@ -4,7 +4,7 @@ ghost use Rattle.std.specs.Prelude.{◌≡◌, ◌≤◌, vec_len};
 ghost use Rattle.http_ports.specs.declared.last.Last.TheVariants.{InputEnded};
 
 use http_ports::{Last, Timestamp};
-use traces::Trace;
+use streams::Trace;
 
 /// What a peer does once it has sent its input, or got as much as it takes.
 #[derive(Clone, Copy, Drop)]

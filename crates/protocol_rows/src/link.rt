@@ -7,7 +7,7 @@ use crate::countdown::Countdown;
 use crate::update_client_replies::Replies;
 use std::alloc::{AllocError, Global};
 use std::str;
-use traces::Trace;
+use streams::Trace;
 use update_client::{Failed, Link};
 
 /// What a link has carried, for contracts.

@@ -4,7 +4,7 @@ ghost use Rattle.std.specs.Prelude.{◌≡◌, [], length, IfOk};
 
 use crate::countdown::Countdown;
 use std::alloc::{AllocError, Global};
-use traces::Trace;
+use streams::Trace;
 use update_client::{Failed, Installer, Step};
 
 /// An installer that keeps what is staged, and prints what is committed.

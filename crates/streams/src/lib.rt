@@ -8,15 +8,25 @@
 //! characters, which would break a line of a terminal or change its state. Read `specs/Strings.antt`.
 //!
 //! It does not buffer, and flushes nothing.
+//!
+//! What has happened, which contracts alone see.
+//!
+//! A `Trace` is a list of values as they were when each was recorded. It keeps none of them, takes no memory and has no
+//! limit, so a device says with it what it has carried, whatever that is and whether or not memory is left: read
+//! `specs/Traces.antt`.
+//!
+//! No program can read a trace.
 
 #![tactic(auto)]
 
 mod disk;
 mod reading;
 mod shown;
+mod trace;
 mod writing;
 
 pub use crate::disk::Disk;
 pub use crate::reading::{ReadFailure, ReadWhole};
 pub use crate::shown::Shown;
+pub use crate::trace::Trace;
 pub use crate::writing::{WriteWhole, offer};

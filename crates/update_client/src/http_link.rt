@@ -13,7 +13,7 @@ use http_client_heads::{LinkFault, Post};
 use std::alloc::Global;
 use std::net::{Net, TcpListener, TcpStream};
 use std::time::{Clock, Duration};
-use traces::Trace;
+use streams::Trace;
 
 /// The path that update checks are posted to.
 pub const UPDATE_PATH: &str = "/service/update2/json";

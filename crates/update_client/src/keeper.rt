@@ -9,8 +9,7 @@ use crate::lines::StepLine;
 use std::alloc::Global;
 use std::mem;
 use std::snapshot::Snapshot;
-use streams::WriteWhole;
-use traces::Trace;
+use streams::{Trace, WriteWhole};
 
 /// An installer that keeps no files: the client has hashed what it is given. It prints a line for each step that it
 /// commits, and commits none after a line that it couldn't print.

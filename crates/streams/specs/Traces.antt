@@ -1,6 +1,6 @@
 -- The entries of a trace; this project's profile.
 use Rattle.std.specs.Prelude.{List, [], ◌∷◌, ◌++◌}
-use Rattle.traces.specs.declared.trace.Entries.{Entries, Empty, Recorded'}
+use Rattle.streams.specs.declared.trace.Entries.{Entries, Empty, Recorded'}
 
 -- rule: Entries of a trace
 -- the entries in order, the first one first

@@ -1,5 +1,5 @@
 use Rattle.std.proofs.Common.{◌≡◌, ◌++◌, take}
-use Rattle.traces.proofs.trace.Trace+u8.extend.Given as goal
+use Rattle.streams.proofs.trace.Trace+u8.extend.Given as goal
 
 abbrev pub invariant-loop-byte : goal.invariant-loop-byte
 invariant-loop-byte l = l.self ≡ l.fn.self ++ take l.byte-index l.bytes

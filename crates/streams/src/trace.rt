@@ -17,7 +17,7 @@ pub struct Trace<T> {
 
 impl<T> Model for Trace<T> {
     ghost use Rattle.std.specs.Prelude.{List};
-    ghost use Rattle.traces.specs.Traces.{entries_of};
+    ghost use Rattle.streams.specs.Traces.{entries_of};
 
     ghost Value = { List T };
 
