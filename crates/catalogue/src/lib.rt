@@ -30,6 +30,3 @@ pub use crate::edits::release_settings::{
 };
 pub use crate::edits::releases::AddRelease;
 pub use crate::fault::{Fault, Refused};
-pub use records::form::is_cohort_name;
-pub use records::{App, Cohort, Declared, Diff, Mirror, Release};
-pub use version::Version;
