@@ -54,7 +54,7 @@ impl EditionBuilder {
         ensures ok { MatchResult result (λ _. Continues self.old batch (Ok self.new)) (λ _. self.new ≡ self.old) }
         ensures err { IfErr result (λ error. Continues self.old batch (Err error)) }
     {
-        catalogue_laws::growth();
+        catalogue_laws::histories::growth();
         let made = self.catalogue.applied(&batch)?;
         if self.batches.len() >= MAX_BATCHES {
             return Err(NextError::HistoryFull);

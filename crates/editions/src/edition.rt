@@ -191,7 +191,7 @@ impl Edition {
         requires built { AreTablesFor draft.made draft.marks.items built.now }
         ensures { Continues self.now batch result }
     {
-        catalogue_laws::growth();
+        catalogue_laws::histories::growth();
         let tables = next_tables(self.alloc, &self.catalogue, &self.tables, &draft, built)?;
         let batches = followed(self.alloc, &self.batches, batch)?;
         let Draft { made, marks: _ } = draft;

@@ -134,7 +134,7 @@ pub(crate) fn marks_of(
     ensures marks { IfOk result (λ marks. AreEach (AreMarksOf before.now batch.now made.now) (length made.now) marks.items) }
     ensures kept { IfOk result (λ marks. KeepsOthers before.now made.now marks.items) }
 {
-    catalogue_laws::other_releases();
+    catalogue_laws::histories::other_releases();
     let mut marks = Vec::with_capacity(alloc, made.apps().len())?;
     for index in 0..made.apps().len() {
         let own = marks_of_app(

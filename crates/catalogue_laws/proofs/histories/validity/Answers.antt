@@ -5,7 +5,7 @@ use Rattle.catalogue_laws.proofs.HistoryLemmas.{Makes-from_run}
 use Rattle.records.proofs.KeyLemmas.{VersionLaws}
 use Rattle.catalogue.proofs.ValidityLemmas.{IsValid-empty}
 use Rattle.catalogue_laws.proofs.ValidHistoryLemmas.{IsValid-Makes}
-use Rattle.catalogue_laws.proofs.validity.Goals as goal
+use Rattle.catalogue_laws.proofs.histories.validity.Goals as goal
 
 pub returns : goal.returns
 returns c =

@@ -3,7 +3,7 @@ use Rattle.std.proofs.Common.{[]}
 use Rattle.catalogue_laws.specs.Histories.{edits_of, has_rollback, is_open, sets_open, sets_rollback, sets_share, sets_targets, share_of, targets_of}
 use Rattle.catalogue_laws.proofs.HistoryLemmas.{Makes-from_run, last_set-Makes}
 use Rattle.catalogue_laws.proofs.SettingLemmas.{has_rollback-after, is_open-after, share_of-after, targets_of-after}
-use Rattle.catalogue_laws.proofs.cohort_settings.Goals as goal
+use Rattle.catalogue_laws.proofs.histories.cohort_settings.Goals as goal
 
 pub returns-clause-targets : goal.returns-clause-targets
 returns-clause-targets c = λ history apps led id name.

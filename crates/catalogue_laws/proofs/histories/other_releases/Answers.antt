@@ -1,6 +1,6 @@
 use Rattle.catalogue_laws.proofs.HistoryLemmas.{Makes-from_outcome}
 use Rattle.catalogue_laws.proofs.OtherReleaseLemmas.{HasReleasesOf-Makes}
-use Rattle.catalogue_laws.proofs.other_releases.Goals as goal
+use Rattle.catalogue_laws.proofs.histories.other_releases.Goals as goal
 
 pub returns : goal.returns
 returns c = λ batch apps made accepted index app at apart.

@@ -3,7 +3,7 @@ use Rattle.std.proofs.Common.{[]}
 use Rattle.catalogue_laws.specs.Histories.{audience_of, edits_of, floor_of, is_stone, is_withdrawn, sets_audience, sets_floor, sets_stone, sets_withdrawn}
 use Rattle.catalogue_laws.proofs.HistoryLemmas.{Makes-from_run, last_set-Makes}
 use Rattle.catalogue_laws.proofs.ReleaseSettingLemmas.{audience_of-after, floor_of-after, is_stone-after, is_withdrawn-after}
-use Rattle.catalogue_laws.proofs.release_settings.Goals as goal
+use Rattle.catalogue_laws.proofs.histories.release_settings.Goals as goal
 
 pub returns-clause-stones : goal.returns-clause-stones
 returns-clause-stones c = λ history apps led id version.

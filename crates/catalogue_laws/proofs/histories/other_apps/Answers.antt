@@ -1,6 +1,6 @@
 use Rattle.catalogue_laws.proofs.HistoryLemmas.{Makes-from_outcome}
 use Rattle.catalogue_laws.proofs.OtherAppLemmas.{slice_get-Makes}
-use Rattle.catalogue_laws.proofs.other_apps.Goals as goal
+use Rattle.catalogue_laws.proofs.histories.other_apps.Goals as goal
 
 pub returns : goal.returns
 returns c = λ batch apps made accepted index app at apart.

@@ -5,7 +5,7 @@ use Rattle.catalogue_laws.specs.Histories.{adds_app, adds_cohort, adds_diff, add
 use Rattle.records.specs.Lookups.{cohorts_of, diffs_of, has_cohort, is_app, releases_of}
 use Rattle.catalogue_laws.proofs.AdditionLemmas.{any_app-after, any_cohort-after, any_diff-after, any_release-after}
 use Rattle.catalogue_laws.proofs.HistoryLemmas.{Makes-from_run, list_any-Makes}
-use Rattle.catalogue_laws.proofs.additions.Goals as goal
+use Rattle.catalogue_laws.proofs.histories.additions.Goals as goal
 
 pub returns-clause-apps : goal.returns-clause-apps
 returns-clause-apps c = λ history apps led id.
