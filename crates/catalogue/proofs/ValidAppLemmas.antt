@@ -4,8 +4,8 @@ use Rattle.std.specs.Option.{is_none, option_map_or}
 use Rattle.std.specs.Str.{bytes_eq}
 use Rattle.std.proofs.lemmas.Bool.{and_from, and_parts}
 use Rattle.std.proofs.lemmas.Slice.Eq.{bytes_eq-Decides}
-use Rattle.version.specs.Laws.{LenientAgrees, PrintIsPlain}
-use Rattle.version.specs.Versions.{is_below, lenient_version_of, components_of, printed, version_of, zero_version}
+use Rattle.records.specs.VersionLaws.{LenientAgrees, PrintIsPlain}
+use Rattle.records.specs.Versions.{is_below, lenient_version_of, components_of, printed, version_of, zero_version}
 use Rattle.catalogue.proofs.Accepted.Apps.{TakesApp}
 use Rattle.catalogue.proofs.Accepted.Cohorts.{TakesCohort}
 use Rattle.catalogue.proofs.Accepted.Diffs.{TakesDiff}

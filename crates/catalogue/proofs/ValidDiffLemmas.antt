@@ -1,7 +1,7 @@
 -- The test of a differential, taken apart and put together.
 use Rattle.std.proofs.Common.{◌≡◌, ◌&&◌, true, List}
 use Rattle.std.proofs.lemmas.Bool.{and_from, and_parts}
-use Rattle.version.specs.Versions.{is_below}
+use Rattle.records.specs.Versions.{is_below}
 use Rattle.records.specs.Forms.{is_hash, is_package_name, is_size}
 use Rattle.records.specs.Lookups.{has_release}
 use Rattle.records.specs.Validity.{is_valid_diff}

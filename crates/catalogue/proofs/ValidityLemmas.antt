@@ -5,7 +5,7 @@ use Rattle.std.specs.Str.{bytes_eq}
 use Rattle.std.proofs.lemmas.Grind.{flat_map-append}
 use Rattle.std.proofs.lemmas.List.{append-nil}
 use Rattle.std.proofs.lemmas.Slice.Eq.{bytes_eq-Decides}
-use Rattle.version.specs.Laws.{LenientAgrees, PrintIsPlain}
+use Rattle.records.specs.VersionLaws.{LenientAgrees, PrintIsPlain}
 use Rattle.catalogue.proofs.Accepted.Apps.{TakesApp}
 use Rattle.catalogue.proofs.Accepted.Diffs.{TakesDiff}
 use Rattle.catalogue.proofs.Accepted.ReleaseSettings.{IsSpelledFloor}

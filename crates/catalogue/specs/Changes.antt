@@ -1,6 +1,6 @@
 -- The kinds of change that an edit may make of a content, an equation each; this project's profile.
 use Rattle.std.specs.Prelude.{ℕ, Bool, false, List, [], ◌∷◌, ◌++◌, if◌then◌else◌, None}
-use Rattle.version.specs.Versions.{is_below, lenient_version_of, zero_version}
+use Rattle.records.specs.Versions.{is_below, lenient_version_of, zero_version}
 use Rattle.records.specs.Forms.{hash_named}
 use Rattle.records.specs.Lookups.{is_app, is_cohort, is_pair_below, is_release, pair_of}
 use Rattle.values.specs.Lists.{change}

@@ -7,7 +7,7 @@ pub mod Diffs
 pub mod ReleaseSettings
 pub mod Releases
 use Rattle.std.specs.Prelude.{List, Option}
-use Rattle.version.specs.Versions.{lenient_version_of}
+use Rattle.records.specs.Versions.{lenient_version_of}
 use Rattle.catalogue.specs.Changes.{Change, NewApp, NewCohort, NewDiff, NewRelease, SetsCohort, SetsRelease, changed}
 use Rattle.catalogue.specs.Edits.Apps.{tests_of_add_app}
 use Rattle.catalogue.specs.Edits.CohortSettings.{setting_of_set_target, tests_of_set_open, tests_of_set_rollback, tests_of_set_share, tests_of_set_target}

@@ -8,11 +8,10 @@ use crate::draft::Draft;
 use crate::edit::Batch;
 use crate::fault::Refused;
 use crate::package_index::PackageIndex;
-use records::{App, Cohort, Declared, Diff, Release, lookup};
+use records::{App, Cohort, Declared, Diff, Release, Version, lookup};
 use std::alloc::{AllocError, Global};
 use std::marker::Model;
 use values::{Items, ReadError, Shared};
-use version::Version;
 
 /// The apps of a vendor, which contracts see as their list.
 #[derive(Drop)]

@@ -14,10 +14,9 @@ use crate::edits::diffs::AddDiff;
 use crate::edits::release_settings::ReleaseSetting;
 use crate::edits::releases::AddRelease;
 use records::form::hash_named;
-use records::{App, Cohort, Diff, Release, lookup};
+use records::{App, Cohort, Diff, Release, Version, lookup};
 use std::alloc::{AllocError, Global};
 use values::{Items, Shared, SharedItems, Text};
-use version::Version;
 
 fn new_cohort(name: Text) -> Cohort
     ensures { result ≡ new_cohort name }

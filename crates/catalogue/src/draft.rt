@@ -2,7 +2,7 @@
 
 ghost use Rattle.std.specs.Prelude.{◌≡◌, None, Ok, Some, true, false, OnOk, OnErr, IfOk, IfErr};
 ghost use Rattle.std.specs.Option.{is_none};
-ghost use Rattle.version.specs.Versions.{lenient_version_of, version_of};
+ghost use Rattle.records.specs.Versions.{lenient_version_of, version_of};
 ghost use Rattle.catalogue.specs.Batches.{outcome};
 ghost use Rattle.catalogue.specs.Changes.{NewApp, NewCohort, NewDiff, NewRelease, SetsCohort, SetsRelease, changed};
 ghost use Rattle.catalogue.specs.Draft.{Becomes, Indexes, IsIndexed};
@@ -29,10 +29,9 @@ use crate::edits::release_settings::ReleaseSetting;
 use crate::edits::releases::AddRelease;
 use crate::fault::{Fault, Refused};
 use crate::package_index::PackageIndex;
-use records::{App, Declared, lookup};
+use records::{App, Declared, Version, lookup};
 use std::alloc::{AllocError, Global};
 use values::{Items, ReadError, Shared, Text};
-use version::Version;
 
 /// Tests that an app has a cohort of the name, else returns `UnknownCohort`.
 pub(crate) fn named_cohort(app: &App, name: &Text) -> Result<(), Fault>
@@ -251,9 +250,9 @@ impl Draft {
         ensures valid { OnOk result (IsValid self.new.apps) }
         ensures refused { IfErr result (λ e. Explains e (outcome edits.now self.old.apps)) }
     {
-        version::laws::order();
-        version::laws::spellings();
-        version::laws::printing();
+        records::version_laws::order();
+        records::version_laws::spellings();
+        records::version_laws::printing();
         for (index, edit) in edits.iter().enumerate() {
             if let Err(fault) = edit.check(self) {
                 return Err(ReadError::Fault(Refused { index, fault }));

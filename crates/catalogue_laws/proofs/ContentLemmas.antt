@@ -7,8 +7,8 @@ use Rattle.std.specs.Str.{bytes_eq}
 use Rattle.std.proofs.lemmas.Bool.{eqb-true, or_parts}
 use Rattle.std.proofs.lemmas.List.{append-nil, map-append}
 use Rattle.std.proofs.lemmas.Slice.Eq.{bytes_eq-Decides}
-use Rattle.version.specs.Laws.{LenientAgrees}
-use Rattle.version.specs.Versions.{is_below, lenient_version_of, printed, version_of, zero_version}
+use Rattle.records.specs.VersionLaws.{LenientAgrees}
+use Rattle.records.specs.Versions.{is_below, lenient_version_of, printed, version_of, zero_version}
 use Rattle.catalogue.proofs.AcceptedLemmas.{None-from_not_some}
 use Rattle.catalogue.proofs.AppLemmas.{lowered}
 use Rattle.catalogue.proofs.ValidCohortLemmas.{ValidCohort, ValidCohort-from_test}

@@ -5,7 +5,7 @@ use Rattle.std.specs.Option.{is_none, is_some, option_map_or}
 use Rattle.std.specs.Str.{bytes_eq}
 use Rattle.std.proofs.lemmas.Bool.{lt-leb, not_from_true, or_from}
 use Rattle.std.proofs.lemmas.Slice.Eq.{bytes_eq-Decides}
-use Rattle.version.specs.Versions.{is_below, lenient_version_of, version_of}
+use Rattle.records.specs.Versions.{is_below, lenient_version_of, version_of}
 use Rattle.catalogue.proofs.AppLemmas.{lowered}
 use Rattle.catalogue_laws.proofs.MakingLemmas.{None-from_NoneHold}
 use Rattle.values.proofs.SplitLemmas.{change-at_item, find-at, find-nowhere}

@@ -4,8 +4,8 @@ use Rattle.std.specs.Map.{lookup}
 use Rattle.std.specs.Str.{bytes_eq}
 use Rattle.std.proofs.lemmas.Grind.{flat_map-append}
 use Rattle.std.proofs.lemmas.List.{append-nil, map-append}
-use Rattle.version.specs.Laws.{LenientAgrees}
-use Rattle.version.specs.Versions.{zero_version}
+use Rattle.records.specs.VersionLaws.{LenientAgrees}
+use Rattle.records.specs.Versions.{zero_version}
 use Rattle.hex.specs.Hex.{encode_lower}
 use Rattle.catalogue.proofs.ValidDiffLemmas.{ValidDiff}
 use Rattle.catalogue.proofs.ValidReleaseLemmas.{ValidRelease}

@@ -5,7 +5,7 @@ use Rattle.std.specs.List.{list_any}
 use Rattle.std.specs.Option.{option_map, option_map_or, unwrap_or}
 use Rattle.std.specs.Str.{bytes_eq}
 use Rattle.std.proofs.lemmas.Slice.Eq.{bytes_eq-Decides}
-use Rattle.version.specs.Versions.{lenient_version_of, zero_version}
+use Rattle.records.specs.Versions.{lenient_version_of, zero_version}
 use Rattle.catalogue.proofs.Accepted.ReleaseSettings.{NamesRelease, TakesReleaseSetting}
 use Rattle.catalogue.proofs.Accepted.Releases.{TakesRelease}
 use Rattle.catalogue.proofs.AppLemmas.{read_app-change, read_app-kept, read_app-push_none, read_app-same_id, read_app-then}

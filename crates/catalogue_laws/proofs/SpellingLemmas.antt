@@ -8,8 +8,8 @@ use Rattle.std.proofs.lemmas.Bool.{and_from, and_parts, eqb-true, leb-true, not_
 use Rattle.std.proofs.lemmas.Slice.Eq.{bytes_eq-Decides}
 use Rattle.hex.specs.Hex.{IsBytes, decode_sized, encode_lower, encode_with, lower_digits}
 use Rattle.hex.proofs.HexLemmas.{decode_sized-encode_lower}
-use Rattle.version.specs.Laws.{LenientAgrees}
-use Rattle.version.specs.Versions.{lenient_version_of, version_of}
+use Rattle.records.specs.VersionLaws.{LenientAgrees}
+use Rattle.records.specs.Versions.{lenient_version_of, version_of}
 use Rattle.catalogue_laws.specs.Contents.{spelling_of}
 use Rattle.records.specs.Forms.{hash_named, hash_of, is_hash, is_hash_digit}
 use Rattle.records.specs.Lookups.{has_release, is_release}

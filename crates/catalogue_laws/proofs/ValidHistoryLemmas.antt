@@ -6,7 +6,7 @@ use Rattle.catalogue_laws.proofs.HistoryLemmas.{Makes, holds-Makes}
 use Rattle.records.proofs.KeyLemmas.{VersionLaws}
 use Rattle.records.specs.Validity.{IsValid}
 use Rattle.records.specs.declared.content.App.{App}
-use Rattle.version.specs.Laws.{LenientAgrees, PrintIsPlain}
+use Rattle.records.specs.VersionLaws.{LenientAgrees, PrintIsPlain}
 
 module _ (laws : VersionLaws) (agrees : LenientAgrees) (plain : PrintIsPlain) where
   -- what accepted edits make of a valid content

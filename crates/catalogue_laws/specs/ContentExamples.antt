@@ -1,6 +1,6 @@
 -- A small content with the edits that make it, worked by hand.
 use Rattle.std.specs.Prelude.{◌≡◌, ℕ, true, false, List, [], ◌∷◌, codes, replicate, None, Some}
-use Rattle.version.specs.Versions.{zero_version}
+use Rattle.records.specs.Versions.{zero_version}
 use Rattle.catalogue_laws.specs.Contents.{edits_of_content}
 use Rattle.records.specs.declared.content.App.{App}
 use Rattle.records.specs.declared.content.Cohort.{Cohort}

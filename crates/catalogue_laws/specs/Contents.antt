@@ -4,7 +4,7 @@ use Rattle.std.specs.List.{flat_map}
 use Rattle.std.specs.Option.{option_map_or}
 use Rattle.std.specs.Str.{bytes_eq}
 use Rattle.hex.specs.Hex.{encode_lower}
-use Rattle.version.specs.Versions.{printed, zero_version}
+use Rattle.records.specs.Versions.{printed, zero_version}
 use Rattle.catalogue.specs.Batches.{outcome}
 use Rattle.records.specs.Limits.{max_share}
 use Rattle.records.specs.Lookups.{is_release}

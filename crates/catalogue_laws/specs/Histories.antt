@@ -4,7 +4,7 @@ use Rattle.std.specs.Prelude.{◌≡◌, ℕ, ◌==◌, ◌&&◌, ◌++◌, Bool
 use Rattle.std.specs.List.{list_any, flat_map, slice_get}
 use Rattle.std.specs.Option.{option_map_or}
 use Rattle.std.specs.Str.{bytes_eq}
-use Rattle.version.specs.Versions.{lenient_version_of, zero_version}
+use Rattle.records.specs.Versions.{lenient_version_of, zero_version}
 use Rattle.catalogue.specs.Batches.{outcome, run}
 use Rattle.catalogue.specs.Changes.{new_diff, new_release}
 use Rattle.records.specs.Forms.{same_id}

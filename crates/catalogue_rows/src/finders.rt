@@ -3,11 +3,11 @@
 use crate::lines::catalogue_of;
 use crate::rows::{three_parts, two_parts};
 use catalogue::{Catalogue, Refused};
+use records::Version;
 use std::alloc::Global;
 use std::process::Abort;
 use std::test::Fail;
 use values::ReadError;
-use version::Version;
 
 // A second app, whose higher release is added first.
 const TWO_APPS: &str = "add_app mini stable

@@ -1,9 +1,9 @@
 // A catalogue as a string, a line an item.
 
 use catalogue::{App, Catalogue, Cohort, Diff, Release};
+use records::Version;
 use std::alloc::{AllocError, Global};
 use values::{Items, Text};
-use version::Version;
 
 fn push_optional(lines: &mut String, version: Option<Version>) -> Result<(), AllocError> {
     match version {

@@ -1,10 +1,10 @@
 // Rows of strings that spell versions, and of versions in order; it holds tests alone.
 
 use crate::rows::{check, three_parts, two_parts};
+use records::Version;
 use std::alloc::{AllocError, Global};
 use std::process::Abort;
 use std::test::Fail;
-use version::Version;
 
 fn check_print(
     rt: &impl Abort,

@@ -8,8 +8,8 @@ ghost use Rattle.cohorts.specs.Offers.{highest_offered, is_offered, is_offered_w
 use crate::pin::Pin;
 use crate::track::Lane;
 use catalogue::{Cohort, Release};
+use records::Version;
 use values::Text;
-use version::Version;
 
 fn is_among(name: &str, names: &[Text]) -> bool
     ensures { result ≡ list_any (bytes_eq name.now) names.now }

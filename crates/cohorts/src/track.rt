@@ -13,7 +13,7 @@ use crate::pin::Pin;
 use crate::session::Session;
 use catalogue::{Catalogue, Cohort, Release};
 use omaha_json::AppAsk;
-use version::Version;
+use records::Version;
 
 /// Which of a cohort's two targets a client is meant to have.
 #[derive(Clone, Copy, Debug, PartialEq, Eq, Hash)]

@@ -8,9 +8,9 @@ ghost use Rattle.par_tables.specs.Marks.{KeepsOthers};
 ghost use Rattle.editions.specs.Marks.{cohorts_left, may_change, same_cohort, same_target, AreEach, AreMarksOf, IsMark};
 
 use catalogue::{Batch, Catalogue, Cohort, Edit};
+use records::Version;
 use std::alloc::{AllocError, Global};
 use values::{Items, Text};
-use version::Version;
 
 fn is_same_id(left: &str, right: &str) -> bool
     ensures { result ≡ same_id left.now right.now }

@@ -17,7 +17,7 @@ use Rattle.service_desks.specs.States.{State, Store}
 use Rattle.service_desks.specs.Workers.{Progress}
 use Rattle.interleavings.specs.Runs.{small_batch, small_mirrors}
 use Rattle.interleavings.specs.ServedRuns.{LookedUp, idle_proceedings, left_unpublished, made_up}
-use Rattle.version.specs.Versions as version
+use Rattle.records.specs.Versions as version
 use Rattle.interleavings.proofs.WrongLemmas.{apart}
 
 -- the small history is accepted

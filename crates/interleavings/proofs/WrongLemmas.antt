@@ -21,7 +21,7 @@ use Rattle.records.specs.declared.content.App.{App}
 use Rattle.records.specs.declared.mirror.Mirror.{Mirror}
 use Rattle.replies.specs.Plans.{IsPlan}
 use Rattle.theorems.specs.Asks.{offer_in}
-use Rattle.version.specs.Versions as version
+use Rattle.records.specs.Versions as version
 use Rattle.interleavings.specs.Events.{Drop, Enter, Grant, Learn, Plan, Publish, Raise, Reject, Render}
 use Rattle.interleavings.specs.Jobs.{EndedJob, Job, Pending, Rendered, Worker, is_decided, new_worker}
 use Rattle.interleavings.proofs.EventLemmas.{Made}

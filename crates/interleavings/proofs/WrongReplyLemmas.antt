@@ -15,7 +15,7 @@ use Rattle.records.specs.declared.content.Release.{Release}
 use Rattle.replies.specs.Replies.{check_reply}
 use Rattle.replies.specs.declared.choices.Choice.{Choice}
 use Rattle.theorems.specs.Asks.{IsGranted, offer_by, offer_in}
-use Rattle.version.specs.Versions as version
+use Rattle.records.specs.Versions as version
 use Rattle.interleavings.specs.Events.{Event, Grant, Render}
 use Rattle.interleavings.specs.Headline.{OfferLeads, OffersLead, OffersLeadToTargets, RepliesSayTrue, SayTrue, SaysTrue}
 use Rattle.interleavings.specs.Jobs.{Job, Pending, Rendered, new_worker, outcomes_of}

@@ -15,12 +15,12 @@ use editions::Edition;
 use omaha_arguments::Graph;
 use pictures::{Picture, View, picture_of, write_dot, write_svg};
 use price_certificates::Fault;
+use records::Version;
 use reviews::{TrackReview, review_catalogue};
 use std::alloc::{AllocError, Global};
 use std::thread::Threads;
 use streams::{Disk, WriteWhole};
 use values::Text;
-use version::Version;
 
 // The index of the cohort that is named, if one is; nothing if the app has no such cohort.
 fn cohort_in(catalogue: &Catalogue, app: usize, name: &Option<Text>) -> Option<Option<usize>>

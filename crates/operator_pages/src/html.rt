@@ -4,9 +4,9 @@ ghost use Rattle.std.specs.Prelude.{◌≡◌, ◌++◌, IfOk, OnOk, string_byte
 ghost use Rattle.operator_pages.specs.Html.{bar, bar_part, bar_whole, cell, name_cell, number_cell, share_cell, share_string, tag_if, tag_word, named_tag, version_or};
 
 use markup::push_escaped;
+use records::Version;
 use std::alloc::{AllocError, Global};
 use std::fmt::Write;
-use version::Version;
 
 /// Adds a cell of a table with a string.
 #[tactic(auto, unfolding(crate::specs::Html::cell))]

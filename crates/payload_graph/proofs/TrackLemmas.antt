@@ -5,7 +5,7 @@ use Rattle.std.specs.Option.{option_and_then, option_map, option_map_or}
 use Rattle.std.proofs.lemmas.Bool.{and_parts, ltb-true}
 use Rattle.std.proofs.lemmas.List.Elements.{All-from_recursion}
 use Rattle.std.proofs.lemmas.Option.{cond_some, get_or_from_slice_get, slice_get-get_or, slice_get_within}
-use Rattle.version.specs.Laws.{BelowIsIrreflexive, BelowIsTransitive}
+use Rattle.records.specs.VersionLaws.{BelowIsIrreflexive, BelowIsTransitive}
 use Rattle.records.specs.Forms.{is_hash, is_package_name, is_size}
 use Rattle.records.specs.Lookups.{is_release}
 use Rattle.records.specs.Validity.{IsValid, IsValidApp, is_valid_audience, is_valid_release, spells}

@@ -2,8 +2,8 @@
 use Rattle.std.proofs.Common.{◌≡◌, ℕ, ◌+◌, ◌-◌, ◌<◌, ◌≤◌, ◌&&◌, inl, inr, Bool, true, false, List, length, get_or, take, refl, sym, ap, ◌∙◌, arith}
 use Rattle.std.specs.List.{list_any}
 use Rattle.std.proofs.lemmas.Bool.{and_from, and_left, and_right, cases_lt, not_from_false, not_from_true}
-use Rattle.version.specs.Laws.{BelowIsIrreflexive, BelowIsTransitive}
-use Rattle.version.specs.Versions.{is_below}
+use Rattle.records.specs.VersionLaws.{BelowIsIrreflexive, BelowIsTransitive}
+use Rattle.records.specs.Versions.{is_below}
 use Rattle.values.specs.Ordered.{ascend}
 use Rattle.records.specs.Validity.{is_release_below}
 use Rattle.records.specs.declared.content.Cohort.{Cohort}

@@ -13,9 +13,9 @@ ghost use Rattle.payload_graph.specs.Soundness.{is_reached, AreReaches, AreResol
 use crate::door::Door;
 use crate::edge::{Edge, Kind};
 use catalogue::{Diff, Release};
+use records::Version;
 use std::alloc::{AllocError, Global};
 use values::Shared;
-use version::Version;
 
 // The index of a version, sought from one on that is not past it.
 fn seek(releases: &[Release], start: usize, version: &Version) -> usize
@@ -48,7 +48,7 @@ pub(crate) fn resolve(
     requires good { list_all (is_valid_diff releases.now) diffs.now ≡ true }
     ensures { IfOk result (λ edges. edges.items ≡ map (edge_of releases.now) diffs.now) }
 {
-    version::laws::order();
+    records::version_laws::order();
     let mut edges = Vec::with_capacity(alloc, diffs.len())?;
     let mut from = 0;
     let mut to = 0;

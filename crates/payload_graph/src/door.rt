@@ -8,9 +8,8 @@ ghost use Rattle.payload_graph.specs.Net.{door_of, doors_of, opens};
 
 use catalogue::{Cohort, Release};
 use cohorts::{Pin, is_offered};
-use records::lookup;
+use records::{Version, lookup};
 use std::alloc::{AllocError, Global};
-use version::Version;
 
 /// A release as a destination of a track's clients.
 #[derive(Clone, Copy, Debug, PartialEq, Eq)]

@@ -7,7 +7,7 @@ ghost use Rattle.payload_graph.specs.Places.{has_fingerprint, IsHashOf};
 
 use catalogue::{Catalogue, Release};
 use hex::FromHex;
-use version::Version;
+use records::Version;
 
 fn encode_digits(hash: [u8; 32]) -> [u8; 64]
     ensures { result ≡ encode_lower hash }

@@ -9,7 +9,7 @@ use crate::payload::{Payload, TrackKey};
 use crate::place::{Place, version_at};
 use catalogue::{App, Catalogue, Cohort, Diff, Release};
 use cohorts::{Pin, is_offered, track_target};
-use version::Version;
+use records::Version;
 
 // rule: Floor
 fn meets_floor(from: &Version, release: &Release) -> bool

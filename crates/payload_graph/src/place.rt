@@ -4,7 +4,7 @@ ghost use Rattle.payload_graph.specs.Places.{place_of, version_at, IsWithin};
 
 use crate::fingerprint::find_fingerprint;
 use catalogue::{Catalogue, Release};
-use version::Version;
+use records::Version;
 
 /// Where a client is among the releases of an app.
 #[derive(Clone, Copy, Debug, PartialEq, Eq)]

@@ -113,7 +113,7 @@ impl Graph {
         requires resolved { differentials.now ≡ resolved_at catalogue.now key.now.app }
         ensures { IfOk result (λ graph. graph ≡ net_among catalogue.now key.now) }
     {
-        version::laws::order();
+        records::version_laws::order();
         catalogue.validity();
         let app = &catalogue.apps()[key.app];
         graph_in_app(alloc, app, key, differentials.edges.as_slice())

@@ -12,8 +12,8 @@ use Rattle.std.proofs.lemmas.Fmt.{decimal_digit, decimal_nonempty, digits_decima
 use Rattle.std.proofs.lemmas.List.Sums.{position_or_len_is}
 use Rattle.std.proofs.lemmas.Option.{slice_get-get_or}
 use Rattle.std.proofs.lemmas.Slice.Eq.{bytes_eq-Decides}
-use Rattle.version.specs.Laws.{BelowIsIrreflexive}
-use Rattle.version.specs.Versions.{is_below, version_of}
+use Rattle.records.specs.VersionLaws.{BelowIsIrreflexive}
+use Rattle.records.specs.Versions.{is_below, version_of}
 use Rattle.values.specs.Ordered.{ascend}
 use Rattle.records.specs.Validity.{is_valid_release, is_release_below}
 use Rattle.records.specs.declared.content.Cohort.{Cohort}

@@ -6,7 +6,7 @@ use Rattle.std.specs.Option.{is_some, option_and_then, option_map}
 use Rattle.std.specs.Str.{bytes_eq}
 use Rattle.std.proofs.lemmas.Bool.{and_from, false_from_ne_true}
 use Rattle.std.proofs.lemmas.Slice.Eq.{bytes_eq-Decides}
-use Rattle.version.specs.Laws.{BelowIsIrreflexive}
+use Rattle.records.specs.VersionLaws.{BelowIsIrreflexive}
 use Rattle.records.specs.declared.content.Cohort.{Cohort}
 use Rattle.records.specs.declared.content.Release.{Release}
 use Rattle.payload_graph.specs.declared.edge.Kind.{Kind}

@@ -7,7 +7,7 @@ use Rattle.std.proofs.lemmas.List.Elements.{All-from_recursion}
 use Rattle.std.proofs.lemmas.List.Quantifiers.{position-Some}
 use Rattle.std.proofs.lemmas.Option.{get_or_from_slice_get, slice_get-get_or, slice_get_within}
 use Rattle.hex.specs.Hex.{encode_lower}
-use Rattle.version.specs.Laws.{BelowIsIrreflexive}
+use Rattle.records.specs.VersionLaws.{BelowIsIrreflexive}
 use Rattle.records.specs.Lookups.{is_release}
 use Rattle.records.specs.Validity.{IsValid, IsValidApp, is_valid_cohort, is_valid_release}
 use Rattle.records.specs.declared.content.App.{App}

@@ -6,7 +6,7 @@ use Rattle.std.specs.Option.{is_some}
 use Rattle.std.specs.Str.{bytes_eq}
 use Rattle.std.specs.Str.Parse.{digits_value}
 use Rattle.records.specs.Forms.{has_length}
-use Rattle.version.specs.Versions.{version_of}
+use Rattle.records.specs.Versions.{version_of}
 
 -- a space
 abbrev pub is_space : ℕ → Bool

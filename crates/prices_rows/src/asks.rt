@@ -16,9 +16,9 @@ use fixtures::{
 use par_tables::{TrackTables, tables};
 use payload_graph::{Differentials, Graph, Payload, Place, TrackKey};
 use quotes::{Quote, quote_from};
+use records::Version;
 use solver::solve;
 use std::alloc::{AllocError, Global};
-use version::Version;
 
 // Puts a quote at the end: `d0 750` is the differential of the index 0, with the sum.
 fn push_quote(words: &mut String, quote: Quote) -> Result<(), AllocError> {

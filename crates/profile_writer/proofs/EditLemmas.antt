@@ -15,7 +15,7 @@ use Rattle.records.specs.declared.content.App.{App}
 use Rattle.records.specs.declared.content.Cohort.{Cohort}
 use Rattle.records.specs.declared.content.Diff.{Diff}
 use Rattle.records.specs.declared.content.Release.{Release}
-use Rattle.version.specs.Versions.{printed, zero_version}
+use Rattle.records.specs.Versions.{printed, zero_version}
 use Rattle.values.proofs.SplitLemmas.{list_any-before, split_next}
 use Rattle.values.specs.Lists.{IsOnce}
 use Rattle.profile_toml.specs.Apps.{app_edits, edits_of}

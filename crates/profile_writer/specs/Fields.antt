@@ -4,7 +4,7 @@
 use Rattle.std.specs.Prelude.{ℕ, ◌==◌, List, [], ◌∷◌, codes, map, if◌then◌else◌, Option, None, Some, option_map}
 use Rattle.std.specs.Str.{bytes_eq}
 use Rattle.hex.specs.Hex.{encode_lower}
-use Rattle.version.specs.Versions.{printed, zero_version}
+use Rattle.records.specs.Versions.{printed, zero_version}
 use Rattle.catalogue_laws.specs.Contents.{default_name, spelling_of}
 use Rattle.records.specs.Limits.{max_share}
 use Rattle.records.specs.declared.content.App.{App}

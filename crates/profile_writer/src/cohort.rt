@@ -13,9 +13,9 @@ ghost use Rattle.profile_writer.specs.Writers.{filled};
 use crate::release::spelling;
 use crate::table::TableWriter;
 use catalogue::{Cohort, Release};
+use records::Version;
 use std::alloc::{AllocError, Global};
 use toml::Table;
-use version::Version;
 
 const ALL_CLIENTS: u64 = 1000;
 

@@ -12,11 +12,10 @@ ghost use Rattle.profile_writer.specs.Writers.{filled};
 
 use crate::table::TableWriter;
 use catalogue::{Diff, Release};
-use records::lookup;
+use records::{Version, lookup};
 use std::alloc::{AllocError, Global};
 use toml::Table;
 use values::Shared;
-use version::Version;
 
 /// Returns the string that a version's release was added with.
 pub(crate) fn spelling<'r>(releases: &'r [Release], version: &Version) -> &'r str

@@ -4,7 +4,7 @@ use Rattle.std.specs.List.{All, slice_get}
 use Rattle.std.specs.Option.{option_and_then, option_map_or, IfSome}
 use Rattle.std.proofs.lemmas.Bool.{and_parts}
 use Rattle.std.proofs.lemmas.List.Sums.{AllPass-from_list_all}
-use Rattle.version.specs.Laws.{BelowIsIrreflexive}
+use Rattle.records.specs.VersionLaws.{BelowIsIrreflexive}
 use Rattle.values.specs.Ordered.{ascend}
 use Rattle.records.specs.Forms.{is_hash, is_package_name, is_size}
 use Rattle.records.specs.Lookups.{cohorts_at, releases_at}

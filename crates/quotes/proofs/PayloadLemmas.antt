@@ -24,7 +24,7 @@ use Rattle.payload_graph.specs.Laws.{DiffersArePermitted, FullsArePermitted, IsT
 use Rattle.payload_graph.specs.Net.{Net, differs_of, door_of, doors_of, edge_of, edges_from, full, fulls, leaves, net_of, window}
 use Rattle.payload_graph.specs.declared.door.Door.{Door}
 use Rattle.payload_graph.specs.declared.edge.Edge.{Edge}
-use Rattle.version.specs.Laws.{BelowIsIrreflexive}
+use Rattle.records.specs.VersionLaws.{BelowIsIrreflexive}
 use Rattle.quotes.specs.Quotes.{kind_of, payload_named}
 use Rattle.quotes.proofs.NamedLemmas.{HasEnds, payload_named-differ}
 use Rattle.quotes.proofs.MemberLemmas.{ComesFrom-map, Contains-filter, Contains-filtered, Contains-map, Contains-numbered, IsThere, IsThere-test, passes-filtered, passes-found, slice_get-numbered}

@@ -14,7 +14,7 @@ use catalogue::Catalogue;
 use cohorts::track_target;
 use payload_graph::{Kind, Payload, Place, TrackKey};
 use price_cert::{Certified, Row};
-use version::Version;
+use records::Version;
 
 /// What the clients of a track at a place are offered.
 #[derive(Clone, Copy, Debug, PartialEq, Eq)]
@@ -81,7 +81,7 @@ pub fn quote_at(catalogue: &Catalogue, key: &TrackKey, release: usize, table: &C
     requires release { release < length (releases_at catalogue.now key.now.app) }
     ensures { IsQuoteAmong catalogue.now key.now (At release) result }
 {
-    version::laws::order();
+    records::version_laws::order();
     payload_graph::laws::fulls();
     payload_graph::laws::differs();
     catalogue.validity();
@@ -155,7 +155,7 @@ fn quote_by_row(
     requires table { net_among catalogue.now key.now ≡ Some table.now.net }
     ensures { IfSome result (λ quote. IsQuoteAmong catalogue.now key.now (Outside version.now) quote) }
 {
-    version::laws::order();
+    records::version_laws::order();
     catalogue.validity();
     let release = catalogue.find_release(key.app, version)?;
     let quote = quote_at(catalogue, key, release, table);
@@ -172,7 +172,7 @@ fn quote_outside(
     requires table { net_among catalogue.now key.now ≡ Some table.now.net }
     ensures { IsQuoteAmong catalogue.now key.now (Outside version) result }
 {
-    version::laws::order();
+    records::version_laws::order();
     payload_graph::laws::fulls();
     payload_graph::laws::differs();
     catalogue.validity();

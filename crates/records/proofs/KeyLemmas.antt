@@ -3,8 +3,8 @@ use Rattle.std.proofs.Common.{◌≡◌, ℕ, ◌&&◌, ◌||◌, Bool, true, fa
 use Rattle.std.specs.Str.{bytes_eq}
 use Rattle.std.proofs.lemmas.Bool.{and_from, and_parts, false≢true, or_parts}
 use Rattle.std.proofs.lemmas.Slice.Eq.{bytes_eq-Decides}
-use Rattle.version.specs.Laws.{BelowIsIrreflexive, BelowIsTotal, BelowIsTransitive}
-use Rattle.version.specs.Versions.{is_below}
+use Rattle.records.specs.VersionLaws.{BelowIsIrreflexive, BelowIsTotal, BelowIsTransitive}
+use Rattle.records.specs.Versions.{is_below}
 use Rattle.records.specs.Lookups.{Pair, is_pair_below, same_pair}
 use Rattle.values.specs.Ordered.{IsOrder}
 

@@ -3,3 +3,5 @@ pub mod Limits
 pub mod Lookups
 pub mod Mirrors
 pub mod Validity
+pub mod VersionLaws
+pub mod Versions

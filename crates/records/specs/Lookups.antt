@@ -4,7 +4,7 @@ use Rattle.std.specs.Option.{option_map_or}
 use Rattle.std.specs.List.{flat_map, list_any}
 use Rattle.std.specs.Map.{lookup}
 use Rattle.std.specs.Str.{bytes_eq}
-use Rattle.version.specs.Versions.{is_below}
+use Rattle.records.specs.Versions.{is_below}
 use Rattle.records.specs.Forms.{same_id}
 use Rattle.values.specs.Ordered.{place_in}
 use Rattle.records.specs.declared.content.App.{App}

@@ -3,7 +3,7 @@ use Rattle.std.specs.Prelude.{◌≡◌, ℕ, ◌≤◌, ◌&&◌, ◌||◌, Boo
 use Rattle.std.specs.List.{AllByRecursion, list_all}
 use Rattle.std.specs.Option.{option_map_or}
 use Rattle.std.specs.Str.{bytes_eq}
-use Rattle.version.specs.Versions.{is_below, printed, version_of}
+use Rattle.records.specs.Versions.{is_below, printed, version_of}
 use Rattle.records.specs.Forms.{is_app_id, is_cohort_name, is_hash, is_package_name, is_size}
 use Rattle.records.specs.Limits.{max_apps, max_cohorts, max_diffs, max_releases, max_share}
 use Rattle.records.specs.Lookups.{has_cohort, has_hash, has_release, is_app, is_cohort, is_pair_below, packages_of, pair_of}

@@ -1,9 +1,9 @@
 ghost use Rattle.std.specs.Prelude.{◌≡◌, IfOk, position};
 ghost use Rattle.records.specs.Lookups.{is_release};
 
+use crate::version::Version;
 use std::alloc::AllocError;
 use values::{Items, Shared, SharedItems, Text};
-use version::Version;
 
 /// An app with all that the catalogue holds of it.
 #[derive(Drop)]

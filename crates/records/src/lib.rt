@@ -6,6 +6,15 @@
 //! catalogue. `form` tests a string, `lookup` finds an item, and a `Mirror` says whether it is valid.
 //!
 //! It makes no catalogue and changes none: the crate above does.
+//!
+//! Versions of releases: what a string spells, and which of two versions is below the other.
+//!
+//! A `Version` is sixteen numbers, which contracts see as their list; components that a string leaves
+//! out count as 0. `Version::parse` takes the strings that a publisher may write, and
+//! `Version::lenient` any string that a client sends. What a string spells, and the order, are in
+//! `specs/Versions.antt`; `laws` has what holds of them.
+//!
+//! It does not keep a version's spelling: whoever prints a release keeps the string beside it.
 
 #![tactic(auto)]
 
@@ -13,7 +22,11 @@ mod content;
 pub mod form;
 pub mod lookup;
 mod mirror;
+mod spelling;
+mod version;
+pub mod version_laws;
 
 pub use crate::content::{App, Cohort, Diff, Release};
 pub use crate::mirror::Mirror;
+pub use crate::version::Version;
 pub use values::Declared;

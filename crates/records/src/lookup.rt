@@ -9,8 +9,8 @@ ghost use Rattle.records.specs.Validity.{IsValid, is_diff_before, is_release_bel
 
 use crate::content::{App, Cohort, Diff, Release};
 use crate::form::is_same_id;
+use crate::version::Version;
 use values::{Items, Shared};
-use version::Version;
 
 /// The index of the app of an identifier, sought from the last app on.
 pub fn index_of_app(apps: &[App], id: &str) -> Option<usize>
@@ -35,7 +35,7 @@ pub fn place_of(releases: &[Release], version: &Version) -> usize
     ensures value { result ≡ place_of version.now releases.now }
     ensures bound { result ≤ length releases.now }
 {
-    version::laws::order();
+    crate::version_laws::order();
     releases.partition_point(|release| release.version.is_below(version))
 }
 
@@ -44,7 +44,7 @@ pub fn has_release(releases: &[Release], version: &Version) -> bool
     requires { ascend is_release_below releases.now ≡ true }
     ensures { result ≡ has_release releases.now version.now }
 {
-    version::laws::order();
+    crate::version_laws::order();
     match releases.get(place_of(releases, version)) {
         Some(release) => version.is_equal(&release.version),
         None => false,
@@ -56,7 +56,7 @@ pub fn index_of_release(releases: &[Release], version: &Version) -> Option<usize
     requires { ascend is_release_below releases.now ≡ true }
     ensures { result ≡ position (is_release version.now) releases.now }
 {
-    version::laws::order();
+    crate::version_laws::order();
     if has_release(releases, version) {
         Some(place_of(releases, version))
     } else {
@@ -82,7 +82,7 @@ pub fn place_of_pair(diffs: &[Shared<Diff>], from: &Version, to: &Version) -> us
     ensures value { result ≡ place_of_pair (from.now, to.now) diffs.now }
     ensures bound { result ≤ length diffs.now }
 {
-    version::laws::order();
+    crate::version_laws::order();
     diffs.partition_point(|diff| is_diff_below(diff.get(), from, to))
 }
 
@@ -91,7 +91,7 @@ pub fn has_diff(diffs: &[Shared<Diff>], from: &Version, to: &Version) -> bool
     requires { ascend is_diff_before diffs.now ≡ true }
     ensures { result ≡ has_diff diffs.now (from.now, to.now) }
 {
-    version::laws::order();
+    crate::version_laws::order();
     match diffs.get(place_of_pair(diffs, from, to)) {
         Some(diff) => is_diff(diff.get(), from, to),
         None => false,
@@ -103,7 +103,7 @@ pub fn index_of_diff(diffs: &[Shared<Diff>], from: &Version, to: &Version) -> Op
     requires { ascend is_diff_before diffs.now ≡ true }
     ensures { result ≡ position (is_diff (from.now, to.now)) diffs.now }
 {
-    version::laws::order();
+    crate::version_laws::order();
     if has_diff(diffs, from, to) {
         Some(place_of_pair(diffs, from, to))
     } else {

@@ -9,7 +9,7 @@ use Rattle.std.proofs.lemmas.List.Elements.{All-from_recursion}
 use Rattle.std.proofs.lemmas.Option.{get_or_from_slice_get, slice_get_within}
 use Rattle.std.proofs.lemmas.Slice.Eq.{bytes_eq-Decides}
 use Rattle.values.specs.Ordered.{ascend}
-use Rattle.version.specs.Laws.{BelowIsIrreflexive}
+use Rattle.records.specs.VersionLaws.{BelowIsIrreflexive}
 use Rattle.records.specs.Validity.{IsValid, IsValidApp, is_release_below}
 use Rattle.records.specs.declared.content.App.{App}
 use Rattle.records.specs.declared.content.Cohort.{Cohort}

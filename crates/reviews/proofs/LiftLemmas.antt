@@ -9,7 +9,7 @@ use Rattle.std.proofs.lemmas.List.Quantifiers.{position-Some}
 use Rattle.std.proofs.lemmas.Option.{cond_some, slice_get-get_or, slice_get-map}
 use Rattle.std.proofs.lemmas.Slice.Eq.{bytes_eq-Decides}
 use Rattle.values.specs.Ordered.{ascend}
-use Rattle.version.specs.Versions.{is_below}
+use Rattle.records.specs.Versions.{is_below}
 use Rattle.records.specs.Lookups.{is_release, place_of}
 use Rattle.records.specs.Validity.{is_release_below}
 use Rattle.records.specs.declared.content.App.{App}

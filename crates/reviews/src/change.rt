@@ -15,9 +15,8 @@ use crate::stuck::is_stuck;
 use catalogue::{App, Catalogue, Cohort, Release};
 use cohorts::Lane;
 use payload_graph::{Payload, TrackKey};
-use records::lookup;
+use records::{Version, lookup};
 use std::alloc::{AllocError, Global};
-use version::Version;
 
 /// The clients of a lane of a cohort that allow a downgrade, or those that don't.
 #[derive(Clone, Copy, Debug, PartialEq, Eq)]
@@ -265,7 +264,7 @@ fn index_of_release(releases: &[Release], first: usize, version: &Version) -> Op
     requires { ascend is_release_below releases.now ≡ true }
     ensures { result ≡ position (is_release version.now) releases.now }
 {
-    version::laws::order();
+    records::version_laws::order();
     match releases.get(first) {
         Some(release) if version.is_equal(&release.version) => Some(first),
         _ => lookup::index_of_release(releases, version),

@@ -5,7 +5,7 @@ ghost use Rattle.std.specs.List.{enumerate_from, list_all, list_any};
 ghost use Rattle.std.specs.Option.{is_some};
 ghost use Rattle.std.specs.Str.{bytes_eq};
 ghost use Rattle.values.specs.Ordered.{ascend};
-ghost use Rattle.version.specs.Versions.{zero_version};
+ghost use Rattle.records.specs.Versions.{zero_version};
 ghost use Rattle.records.specs.Lookups.{is_release, place_of};
 ghost use Rattle.records.specs.Validity.{is_release_below};
 ghost use Rattle.records.specs.declared.content.Release.{Release};
@@ -21,10 +21,9 @@ use crate::roads::Roads;
 use catalogue::{Cohort, Release};
 use cohorts::{Pin, is_offered};
 use payload_graph::{Door, TrackKey, rolls_back};
-use records::lookup;
+use records::{Version, lookup};
 use std::alloc::{AllocError, Global};
 use values::Text;
-use version::Version;
 
 fn is_among(name: &str, names: &[Text]) -> bool
     ensures { result ≡ list_any (bytes_eq name.now) names.now }

@@ -19,10 +19,9 @@ use cohorts::track_target;
 use payload_graph::{Place, TrackKey};
 use price_cert::{Certified, Row};
 use quotes::{Quote, quote_at, quote_from};
-use records::lookup;
+use records::{Version, lookup};
 use std::alloc::{AllocError, Global};
 use values::SharedItems;
-use version::Version;
 
 /// What is said of the clients of a track with a target.
 #[derive(Drop)]

@@ -1,6 +1,6 @@
 -- The built-in batch is accepted, so it is never rejected, and leads to the built-in content.
 use Rattle.std.proofs.Common.{◌≡◌, List, [], ◌∷◌, Result, Ok, Err, length, refl, ap, arith}
-use Rattle.version.specs.Versions.{components_of, lenient_version_of, version_of}
+use Rattle.records.specs.Versions.{components_of, lenient_version_of, version_of}
 use Rattle.catalogue.specs.Batches.{outcome, run, then_run}
 use Rattle.records.specs.Forms.{hash_of}
 use Rattle.records.specs.declared.content.App.{App}

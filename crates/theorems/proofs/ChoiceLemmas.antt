@@ -3,7 +3,7 @@
 use Rattle.std.proofs.Common.{◌≡◌, ℕ, zero, suc, ◌+◌, ◌-◌, ◌≤◌, inl, inr, true, List, [], ◌∷◌, length, Option, None, Some, refl, sym, ap, ◌∙◌, subst, arith}
 use Rattle.std.proofs.lemmas.Bool.{cases_eq}
 use Rattle.std.proofs.lemmas.List.Sums.{sum_by-cons}
-use Rattle.version.specs.Laws.{BelowIsIrreflexive, BelowIsTransitive}
+use Rattle.records.specs.VersionLaws.{BelowIsIrreflexive, BelowIsTransitive}
 use Rattle.values.specs.Ordered.{ascend}
 use Rattle.records.specs.Validity.{is_release_below}
 use Rattle.records.specs.declared.content.App.{App}

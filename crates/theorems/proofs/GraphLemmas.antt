@@ -10,8 +10,8 @@ use Rattle.std.proofs.lemmas.List.FromFn.{get_or-enumerate_from, length-enumerat
 use Rattle.std.proofs.lemmas.List.Sums.{AllPass-from_list_all}
 use Rattle.std.proofs.lemmas.Option.{option_and_then_some, slice_get_within}
 use Rattle.std.proofs.lemmas.Slice.Eq.{bytes_eq-Decides}
-use Rattle.version.specs.Laws.{BelowIsIrreflexive, BelowIsTransitive}
-use Rattle.version.specs.Versions.{is_below}
+use Rattle.records.specs.VersionLaws.{BelowIsIrreflexive, BelowIsTransitive}
+use Rattle.records.specs.Versions.{is_below}
 use Rattle.records.specs.Forms.{is_hash, is_package_name, is_size}
 use Rattle.records.specs.Lookups.{has_release, is_release}
 use Rattle.records.specs.Validity.{IsValidApp, is_valid_audience, is_valid_diff, is_valid_release, spells}

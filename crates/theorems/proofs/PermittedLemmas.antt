@@ -4,7 +4,7 @@ use Rattle.std.specs.List.{position, slice_get}
 use Rattle.std.specs.Option.{option_and_then, option_map, option_map_or}
 use Rattle.std.proofs.lemmas.Option.{slice_get_past, slice_get_within}
 use Rattle.std.proofs.lemmas.Slice.Eq.{bytes_eq-Decides}
-use Rattle.version.specs.Laws.{BelowIsIrreflexive, BelowIsTransitive}
+use Rattle.records.specs.VersionLaws.{BelowIsIrreflexive, BelowIsTransitive}
 use Rattle.values.specs.Ordered.{ascend}
 use Rattle.records.specs.Lookups.{is_release}
 use Rattle.records.specs.Validity.{is_release_below}

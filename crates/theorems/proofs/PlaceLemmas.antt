@@ -11,7 +11,7 @@ use Rattle.std.proofs.lemmas.Option.{get_or_from_slice_get, slice_get_within}
 use Rattle.std.proofs.lemmas.Slice.Eq.{bytes_eq-Decides}
 use Rattle.hex.specs.Hex.{IsBytes, decode_sized, encode_lower}
 use Rattle.hex.proofs.HexLemmas.{decode_sized-encode_lower}
-use Rattle.version.specs.Versions.{lenient_version_of}
+use Rattle.records.specs.Versions.{lenient_version_of}
 use Rattle.values.proofs.OnceLemmas.{position-once}
 use Rattle.records.specs.Lookups.{has_hash}
 use Rattle.records.specs.Validity.{IsValidApp, is_valid_release}

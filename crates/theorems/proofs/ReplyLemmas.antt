@@ -1,7 +1,7 @@
 -- The reply to the update check of a client: what its status says.
 use Rattle.std.proofs.Common.{◌≡◌, ℕ, List, Option, None, Some, refl, sym, ap, ◌∙◌, subst}
 use Rattle.std.specs.Option.{option_and_then, option_map, option_map_or, MatchOption}
-use Rattle.version.specs.Laws.{BelowIsIrreflexive, BelowIsTransitive}
+use Rattle.records.specs.VersionLaws.{BelowIsIrreflexive, BelowIsTransitive}
 use Rattle.records.specs.Validity.{IsValid, IsValidApp}
 use Rattle.records.specs.declared.content.App.{App}
 use Rattle.records.specs.declared.content.Diff.{Diff}

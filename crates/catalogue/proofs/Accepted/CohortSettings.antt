@@ -2,7 +2,7 @@
 use Rattle.std.proofs.Common.{◌≡◌, ℕ, true, false, not, nat_le, List, Option, Some, None, refl, option_map}
 use Rattle.std.specs.Option.{is_none}
 use Rattle.std.proofs.lemmas.Bool.{or_parts}
-use Rattle.version.specs.Versions.{lenient_version_of}
+use Rattle.records.specs.Versions.{lenient_version_of}
 use Rattle.catalogue.proofs.AcceptedLemmas.{NoneHold-first_fault, Some-from_not_none, true-from_not}
 use Rattle.catalogue.proofs.ValidCohortLemmas.{ValidCohort-from_test, is_valid_cohort-from_parts}
 use Rattle.catalogue.specs.Changes.{with_setting}

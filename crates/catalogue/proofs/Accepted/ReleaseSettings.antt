@@ -1,7 +1,7 @@
 -- What is known of a setting that a release may be given.
 use Rattle.std.proofs.Common.{◌≡◌, ℕ, true, false, not, List, Some, None, refl}
 use Rattle.std.specs.Option.{is_none}
-use Rattle.version.specs.Versions.{lenient_version_of, version_of}
+use Rattle.records.specs.Versions.{lenient_version_of, version_of}
 use Rattle.catalogue.proofs.AcceptedLemmas.{NoneHold-first_fault, Some-from_not_none, true-from_not}
 use Rattle.catalogue.proofs.ValidReleaseLemmas.{is_valid_release-audience}
 use Rattle.catalogue.specs.Changes.{with_release_setting}

@@ -3,7 +3,7 @@ use Rattle.std.proofs.Common.{◌≡◌, ◌<◌, true, false, List, length, Som
 use Rattle.std.specs.List.{list_any}
 use Rattle.std.specs.Option.{is_none}
 use Rattle.std.proofs.lemmas.Bool.{leb-false}
-use Rattle.version.specs.Versions.{version_of, lenient_version_of}
+use Rattle.records.specs.Versions.{version_of, lenient_version_of}
 use Rattle.catalogue.proofs.AcceptedLemmas.{None-from_not_some, NoneHold-first_fault, Some-from_not_none, true-from_not}
 use Rattle.catalogue.specs.Edits.Releases.{tests_of_add_release}
 use Rattle.catalogue.specs.Faults.{first_fault}

@@ -1,7 +1,7 @@
 -- The faults of an added release, in their order; this project's profile.
 use Rattle.std.specs.Prelude.{not, nat_le, Bool, List, [], ◌∷◌, length, is_some, is_none}
 use Rattle.std.specs.List.{list_any}
-use Rattle.version.specs.Versions.{version_of, lenient_version_of}
+use Rattle.records.specs.Versions.{version_of, lenient_version_of}
 use Rattle.records.specs.Forms.{is_package_name, hash_named, hash_of, is_size}
 use Rattle.records.specs.Limits.{max_releases}
 use Rattle.records.specs.Lookups.{app_of, declared_of, has_hash, has_release, releases_of}

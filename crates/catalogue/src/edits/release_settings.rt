@@ -4,7 +4,7 @@ ghost use Rattle.std.specs.Prelude.{◌≡◌, IfOk};
 ghost use Rattle.std.specs.List.{list_all};
 ghost use Rattle.std.specs.Option.{option_copied};
 ghost use Rattle.std.specs.Result.{result_err};
-ghost use Rattle.version.specs.Versions.{lenient_version_of};
+ghost use Rattle.records.specs.Versions.{lenient_version_of};
 ghost use Rattle.catalogue.specs.Changes.{with_release_setting};
 ghost use Rattle.catalogue.specs.Edits.ReleaseSettings.{tests_of_set_audience, tests_of_set_floor, tests_of_set_stone, tests_of_set_withdrawn};
 ghost use Rattle.catalogue.specs.Faults.{first_fault};
@@ -15,10 +15,9 @@ ghost use Rattle.catalogue.specs.declared.edits.release_settings.ReleaseSetting.
 use crate::draft::{Draft, named_release, spelled_version};
 use crate::fault::Fault;
 use records::lookup::has_cohort;
-use records::{Cohort, Release};
+use records::{Cohort, Release, Version};
 use std::alloc::AllocError;
 use values::{Items, Text};
-use version::Version;
 
 /// Sets whether a release is a stepping stone, which no package may jump over.
 #[derive(Clone, Drop)]

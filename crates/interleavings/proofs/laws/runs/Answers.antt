@@ -2,7 +2,7 @@ use Rattle.std.proofs.Common.{refl}
 use Rattle.hex.proofs.OnLiterals.{hex_on_literals}
 use Rattle.cohorts.specs.CohortTexts.{parsed}
 use Rattle.records.specs.Forms.{hash_of}
-use Rattle.version.specs.Versions as version
+use Rattle.records.specs.Versions as version
 use Rattle.interleavings.proofs.laws.runs.Goals as goal
 
 pub returns : goal.returns

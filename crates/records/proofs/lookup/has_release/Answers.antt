@@ -3,7 +3,7 @@ use Rattle.std.specs.List.{slice_get}
 use Rattle.std.specs.Option.{option_map_or}
 use Rattle.std.proofs.lemmas.Option.{slice_get_past, slice_get_read}
 use Rattle.std.specs.Str.{bytes_eq}
-use Rattle.version.specs.Versions.{is_below}
+use Rattle.records.specs.Versions.{is_below}
 use Rattle.records.proofs.KeyLemmas.{IsOrder-versions, VersionLaws}
 use Rattle.values.proofs.OrderedLemmas.{has_in-at_place}
 use Rattle.records.specs.Lookups.{is_release}

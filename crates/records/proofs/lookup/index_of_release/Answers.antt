@@ -1,6 +1,6 @@
 use Rattle.std.proofs.Common.{◌∙◌, Bool, cond, sym, ap, Some, None}
 use Rattle.std.specs.Str.{bytes_eq}
-use Rattle.version.specs.Versions.{is_below}
+use Rattle.records.specs.Versions.{is_below}
 use Rattle.records.proofs.KeyLemmas.{IsOrder-versions, VersionLaws}
 use Rattle.values.proofs.OrderedLemmas.{position-at_place}
 use Rattle.records.specs.Lookups.{place_of}

@@ -1,7 +1,7 @@
 use Rattle.std.proofs.Common.{rules}
 use Rattle.std.proofs.lemmas.List.Sorted.{IsPartitionPoint-from_clause}
 use Rattle.std.specs.Str.{bytes_eq}
-use Rattle.version.specs.Versions.{is_below}
+use Rattle.records.specs.Versions.{is_below}
 use Rattle.records.proofs.KeyLemmas.{IsOrder-versions, VersionLaws}
 use Rattle.values.proofs.OrderedLemmas.{IsPartitionedBy-ascend, place_in-from_point, under}
 use Rattle.records.specs.declared.content.Release.{Release}

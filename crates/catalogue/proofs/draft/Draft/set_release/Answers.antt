@@ -1,5 +1,5 @@
 use Rattle.std.proofs.Common.{◌≡◌, ◌∙◌, ap, sym, refl, List, ℕ}
-use Rattle.version.specs.Versions.{lenient_version_of}
+use Rattle.records.specs.Versions.{lenient_version_of}
 use Rattle.catalogue.proofs.PackageLemmas.{declared_of-kept_in_release}
 use Rattle.catalogue.specs.Changes.{in_release, with_release_setting}
 use Rattle.values.specs.Lists.{change}

@@ -1,5 +1,0 @@
-pub mod OrderLemmas
-mod SpellingLemmas
-mod PrintingLemmas
-mod ReadingBackLemmas
-mod ReadingLemmas
