@@ -4,8 +4,8 @@ use Rattle.std.proofs.lemmas.List.{length-take-le, map_push, take_more}
 use Rattle.std.proofs.lemmas.List.Elements.{All-from_recursion}
 use Rattle.std.specs.List.{enumerate_from}
 use Rattle.values.specs.Ordered.{ascend}
-use Rattle.records.specs.Validity.{IsValid, IsValidApp, is_release_below}
-use Rattle.records.specs.declared.content.App.{App}
+use Rattle.catalogue.specs.Validity.{IsValid, IsValidApp, is_release_below}
+use Rattle.catalogue.specs.declared.content.App.{App}
 use Rattle.reviews.specs.declared.review.TrackReview.{TrackReview}
 use Rattle.app_sights.specs.Sights.{sight_by, sights_by}
 

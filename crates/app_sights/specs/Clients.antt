@@ -1,7 +1,7 @@
 -- The stuck clients of an app, and how they are named; this project's profile.
 use Rattle.std.specs.Prelude.{ℕ, ◌==◌, ◌-◌, Bool, if◌then◌else◌, codes, List, [], ◌++◌, filter_map, length, map, take, Option, None, Some}
 use Rattle.std.specs.List.{enumerate_from, flat_map}
-use Rattle.records.specs.declared.content.App.{App}
+use Rattle.catalogue.specs.declared.content.App.{App}
 use Rattle.cohorts.specs.declared.track.Lane.{Lane}
 use Rattle.cohorts.specs.declared.track.Lane.TheVariants as lane
 use Rattle.payload_graph.specs.declared.payload.TrackKey.{TrackKey}

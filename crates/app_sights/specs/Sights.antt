@@ -1,7 +1,7 @@
 -- What is seen of the releases of each app; this project's profile.
 use Rattle.std.specs.Prelude.{◌≡◌, ℕ, ◌+◌, ◌&&◌, nat_lt, not, Bool, true, false, if◌then◌else◌, List, length, map, sum_by, Option, None, Some}
 use Rattle.std.specs.List.{enumerate_from, list_any}
-use Rattle.records.specs.declared.content.App.{App}
+use Rattle.catalogue.specs.declared.content.App.{App}
 use Rattle.reviews.specs.Reviews.{AreReviews}
 use Rattle.reviews.specs.declared.review.TrackReview.{TrackReview}
 use Rattle.pictures.specs.Scenes.{picture_of}

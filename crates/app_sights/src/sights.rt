@@ -1,7 +1,7 @@
 //! What is seen of each app.
 
 ghost use Rattle.std.specs.Prelude.{◌≡◌, IfOk, map, true};
-ghost use Rattle.records.specs.Validity.{is_release_below};
+ghost use Rattle.catalogue.specs.Validity.{is_release_below};
 ghost use Rattle.values.specs.Ordered.{ascend};
 ghost use Rattle.par_tables.specs.Tables.{AreTables};
 ghost use Rattle.app_sights.specs.Sights.{AreSights, AreSightsIf, drawing_of, sight_by, sights_by, unseen, view_of};

@@ -6,9 +6,9 @@ use Rattle.std.proofs.lemmas.List.Folds.{find-append}
 use Rattle.std.proofs.lemmas.Slice.Eq.{bytes_eq-Decides}
 use Rattle.values.proofs.LookupLemmas.{find-change, has_key}
 use Rattle.values.specs.Lists.{change}
-use Rattle.records.specs.Forms.{same_id}
-use Rattle.records.specs.Lookups.{app_of, is_app}
-use Rattle.records.specs.declared.content.App.{App}
+use Rattle.catalogue.specs.Forms.{same_id}
+use Rattle.catalogue.specs.Lookups.{app_of, is_app}
+use Rattle.catalogue.specs.declared.content.App.{App}
 
 -- an identifier without regard to case
 abbrev pub lowered : List ℕ → List ℕ

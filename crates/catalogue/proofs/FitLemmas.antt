@@ -8,7 +8,7 @@ use Rattle.catalogue.proofs.Accepted.ReleaseSettings.{TakesReleaseSetting, Takes
 use Rattle.catalogue.proofs.Accepted.Releases.{TakesRelease, TakesRelease-from_no_fault}
 use Rattle.catalogue.specs.Changes.{Change, NewApp, NewCohort, NewDiff, NewRelease, SetsCohort, SetsRelease}
 use Rattle.catalogue.specs.Edits.{change_of, fault_of}
-use Rattle.records.specs.declared.content.App.{App}
+use Rattle.catalogue.specs.declared.content.App.{App}
 use Rattle.catalogue.specs.declared.edit.Edit.{Edit}
 use Rattle.catalogue.specs.declared.edit.Edit.TheVariants as edit
 

@@ -12,15 +12,15 @@ use Rattle.values.specs.Lists.{change}
 use Rattle.catalogue.specs.Draft.{Indexes}
 use Rattle.catalogue.specs.Faults.{first_fault}
 use Rattle.catalogue.specs.PackageIndex.{found_in}
-use Rattle.records.specs.declared.content.Diff.{Diff}
+use Rattle.catalogue.specs.declared.content.Diff.{Diff}
 use Rattle.catalogue.specs.declared.edits.diffs.AddDiff.{AddDiff}
 use Rattle.catalogue.specs.declared.edits.release_settings.ReleaseSetting.{ReleaseSetting}
 use Rattle.catalogue.specs.declared.edits.releases.AddRelease.{AddRelease}
 use Rattle.catalogue.specs.declared.package_index.PackageIndex.{PackageIndex}
-use Rattle.records.specs.Lookups.{app_of, declared_of, diff_package, full_package, is_app, is_release, packages_in, packages_of, pair_of, place_of, place_of_pair}
-use Rattle.records.specs.declared.content.App.{App}
+use Rattle.catalogue.specs.Lookups.{app_of, declared_of, diff_package, full_package, is_app, is_release, packages_in, packages_of, pair_of, place_of, place_of_pair}
+use Rattle.catalogue.specs.declared.content.App.{App}
 use Rattle.values.specs.declared.declared.Declared.{Declared}
-use Rattle.records.specs.declared.content.Release.{Release}
+use Rattle.catalogue.specs.declared.content.Release.{Release}
 use Rattle.catalogue.specs.Edits.Diffs.{tests_of_add_diff}
 use Rattle.catalogue.specs.Edits.Releases.{tests_of_add_release}
 

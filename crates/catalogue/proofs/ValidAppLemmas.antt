@@ -4,8 +4,8 @@ use Rattle.std.specs.Option.{is_none, option_map_or}
 use Rattle.std.specs.Str.{bytes_eq}
 use Rattle.std.proofs.lemmas.Bool.{and_from, and_parts}
 use Rattle.std.proofs.lemmas.Slice.Eq.{bytes_eq-Decides}
-use Rattle.records.specs.VersionLaws.{LenientAgrees, PrintIsPlain}
-use Rattle.records.specs.Versions.{is_below, lenient_version_of, components_of, printed, version_of, zero_version}
+use Rattle.catalogue.specs.VersionLaws.{LenientAgrees, PrintIsPlain}
+use Rattle.catalogue.specs.Versions.{is_below, lenient_version_of, components_of, printed, version_of, zero_version}
 use Rattle.catalogue.proofs.Accepted.Apps.{TakesApp}
 use Rattle.catalogue.proofs.Accepted.Cohorts.{TakesCohort}
 use Rattle.catalogue.proofs.Accepted.Diffs.{TakesDiff}
@@ -14,20 +14,20 @@ use Rattle.catalogue.proofs.AcceptedLemmas.{Some-from_not_none}
 use Rattle.values.proofs.ChangedLemmas.{ascend-change, count_by-change, count_by-cons, length-change, list_all-change, list_any-change}
 use Rattle.catalogue.proofs.ValidCohortLemmas.{ValidCohort-from_test, is_valid_cohort-from_parts}
 use Rattle.catalogue.proofs.ValidDiffLemmas.{ValidDiff-from_test, is_valid_diff-from_parts}
-use Rattle.records.proofs.HashLemmas.{is_hash-hash_named}
+use Rattle.catalogue.proofs.HashLemmas.{is_hash-hash_named}
 use Rattle.values.proofs.InsertedLemmas.{IsOnce-Inserts, count_by-none, length-Inserts, list_all-Inserts, list_all-weaker, list_any-kept}
 use Rattle.values.proofs.InsertionLemmas.{Inserts, Inserts-push}
-use Rattle.records.proofs.KeyLemmas.{IsOrder-pairs, IsOrder-versions, VersionLaws}
+use Rattle.catalogue.proofs.KeyLemmas.{IsOrder-pairs, IsOrder-versions, VersionLaws}
 use Rattle.values.proofs.OrderedLemmas.{Inserts-put_in, ascend-put_in}
 use Rattle.catalogue.specs.Changes.{in_cohort, in_release, new_app, new_cohort, new_diff, new_release, placed, placed_diff, with_cohort, with_diff, with_release}
 use Rattle.values.specs.Lists.{change}
-use Rattle.records.specs.Forms.{is_cohort_name, is_hash, is_package_name, is_size}
-use Rattle.records.specs.Lookups.{has_cohort, has_hash, has_release, is_cohort, is_pair_below, is_release, pair_of, same_pair}
-use Rattle.records.specs.Validity.{IsValidApp, has_valid_floor, is_valid_audience, is_valid_cohort, is_valid_diff, is_valid_release, is_release_below, is_released, spells}
-use Rattle.records.specs.declared.content.App.{App}
-use Rattle.records.specs.declared.content.Cohort.{Cohort}
-use Rattle.records.specs.declared.content.Diff.{Diff}
-use Rattle.records.specs.declared.content.Release.{Release}
+use Rattle.catalogue.specs.Forms.{is_cohort_name, is_hash, is_package_name, is_size}
+use Rattle.catalogue.specs.Lookups.{has_cohort, has_hash, has_release, is_cohort, is_pair_below, is_release, pair_of, same_pair}
+use Rattle.catalogue.specs.Validity.{IsValidApp, has_valid_floor, is_valid_audience, is_valid_cohort, is_valid_diff, is_valid_release, is_release_below, is_released, spells}
+use Rattle.catalogue.specs.declared.content.App.{App}
+use Rattle.catalogue.specs.declared.content.Cohort.{Cohort}
+use Rattle.catalogue.specs.declared.content.Diff.{Diff}
+use Rattle.catalogue.specs.declared.content.Release.{Release}
 use Rattle.catalogue.specs.declared.edits.apps.AddApp.{AddApp}
 use Rattle.catalogue.specs.declared.edits.cohorts.AddCohort.{AddCohort}
 use Rattle.catalogue.specs.declared.edits.diffs.AddDiff.{AddDiff}

@@ -2,11 +2,11 @@
 use Rattle.std.proofs.Common.{◌≡◌, ◌&&◌, true, nat_le, List, refl}
 use Rattle.std.proofs.lemmas.Bool.{and_from, and_parts}
 use Rattle.catalogue.specs.Changes.{with_setting}
-use Rattle.records.specs.Forms.{is_cohort_name}
-use Rattle.records.specs.Limits.{max_share}
-use Rattle.records.specs.Validity.{is_valid_cohort, is_released}
-use Rattle.records.specs.declared.content.Cohort.{Cohort}
-use Rattle.records.specs.declared.content.Release.{Release}
+use Rattle.catalogue.specs.Forms.{is_cohort_name}
+use Rattle.catalogue.specs.Limits.{max_share}
+use Rattle.catalogue.specs.Validity.{is_valid_cohort, is_released}
+use Rattle.catalogue.specs.declared.content.Cohort.{Cohort}
+use Rattle.catalogue.specs.declared.content.Release.{Release}
 use Rattle.catalogue.specs.declared.edits.cohort_settings.CohortSetting.{CohortSetting}
 use Rattle.catalogue.specs.declared.edits.cohort_settings.CohortSetting.TheVariants as setting
 

@@ -1,12 +1,12 @@
 -- The test of a differential, taken apart and put together.
 use Rattle.std.proofs.Common.{◌≡◌, ◌&&◌, true, List}
 use Rattle.std.proofs.lemmas.Bool.{and_from, and_parts}
-use Rattle.records.specs.Versions.{is_below}
-use Rattle.records.specs.Forms.{is_hash, is_package_name, is_size}
-use Rattle.records.specs.Lookups.{has_release}
-use Rattle.records.specs.Validity.{is_valid_diff}
-use Rattle.records.specs.declared.content.Diff.{Diff}
-use Rattle.records.specs.declared.content.Release.{Release}
+use Rattle.catalogue.specs.Versions.{is_below}
+use Rattle.catalogue.specs.Forms.{is_hash, is_package_name, is_size}
+use Rattle.catalogue.specs.Lookups.{has_release}
+use Rattle.catalogue.specs.Validity.{is_valid_diff}
+use Rattle.catalogue.specs.declared.content.Diff.{Diff}
+use Rattle.catalogue.specs.declared.content.Release.{Release}
 
 -- what is known of a valid differential
 pub record ValidDiff (releases : List Release) (diff : Diff) : Type 0 where

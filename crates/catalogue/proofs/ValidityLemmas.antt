@@ -5,7 +5,7 @@ use Rattle.std.specs.Str.{bytes_eq}
 use Rattle.std.proofs.lemmas.Grind.{flat_map-append}
 use Rattle.std.proofs.lemmas.List.{append-nil}
 use Rattle.std.proofs.lemmas.Slice.Eq.{bytes_eq-Decides}
-use Rattle.records.specs.VersionLaws.{LenientAgrees, PrintIsPlain}
+use Rattle.catalogue.specs.VersionLaws.{LenientAgrees, PrintIsPlain}
 use Rattle.catalogue.proofs.Accepted.Apps.{TakesApp}
 use Rattle.catalogue.proofs.Accepted.Diffs.{TakesDiff}
 use Rattle.catalogue.proofs.Accepted.ReleaseSettings.{IsSpelledFloor}
@@ -16,17 +16,17 @@ use Rattle.catalogue.proofs.ValidCohortLemmas.{name-with_setting}
 use Rattle.catalogue.proofs.ValidReleaseLemmas.{hash-with_release_setting, version-with_release_setting}
 use Rattle.values.proofs.InsertedLemmas.{IsOnce-Inserts, count_by-none, length-Inserts, list_any-find, list_any-lookup}
 use Rattle.values.proofs.InsertionLemmas.{Inserts-push, flat_map-change}
-use Rattle.records.proofs.KeyLemmas.{VersionLaws}
+use Rattle.catalogue.proofs.KeyLemmas.{VersionLaws}
 use Rattle.catalogue.proofs.PackageLemmas.{Inserts-packages_of, Inserts-packages_of-diff, packages_in-in_release}
 use Rattle.catalogue.proofs.ValidAppLemmas.{IsValidApp-in_cohort, IsValidApp-in_release, IsValidApp-new_app, IsValidApp-with_cohort, IsValidApp-with_diff, IsValidApp-with_release, spells-printed}
 use Rattle.catalogue.specs.Changes.{Change, NewApp, NewCohort, NewDiff, NewRelease, SetsCohort, SetsRelease, changed, in_cohort, in_release, new_app, new_cohort, new_diff, new_release, with_cohort, with_diff, with_release, with_release_setting, with_setting}
 use Rattle.values.specs.Lists.{change}
 use Rattle.catalogue.specs.Edits.{after, change_of, fault_of}
-use Rattle.records.specs.Forms.{same_id}
-use Rattle.records.specs.Lookups.{app_of, diff_package, full_package, is_app, packages_in, packages_of}
-use Rattle.records.specs.Validity.{IsValid, IsValidApp, has_valid_floor, is_package}
-use Rattle.records.specs.declared.content.App.{App}
-use Rattle.records.specs.declared.content.Release.{Release}
+use Rattle.catalogue.specs.Forms.{same_id}
+use Rattle.catalogue.specs.Lookups.{app_of, diff_package, full_package, is_app, packages_in, packages_of}
+use Rattle.catalogue.specs.Validity.{IsValid, IsValidApp, has_valid_floor, is_package}
+use Rattle.catalogue.specs.declared.content.App.{App}
+use Rattle.catalogue.specs.declared.content.Release.{Release}
 use Rattle.catalogue.specs.declared.edit.Edit.{Edit}
 use Rattle.catalogue.specs.declared.edits.apps.AddApp.{AddApp}
 use Rattle.catalogue.specs.declared.edits.diffs.AddDiff.{AddDiff}

@@ -1,14 +1,14 @@
 -- The kinds of change that an edit may make of a content, an equation each; this project's profile.
 use Rattle.std.specs.Prelude.{ℕ, Bool, false, List, [], ◌∷◌, ◌++◌, if◌then◌else◌, None}
-use Rattle.records.specs.Versions.{is_below, lenient_version_of, zero_version}
-use Rattle.records.specs.Forms.{hash_named}
-use Rattle.records.specs.Lookups.{is_app, is_cohort, is_pair_below, is_release, pair_of}
+use Rattle.catalogue.specs.Versions.{is_below, lenient_version_of, zero_version}
+use Rattle.catalogue.specs.Forms.{hash_named}
+use Rattle.catalogue.specs.Lookups.{is_app, is_cohort, is_pair_below, is_release, pair_of}
 use Rattle.values.specs.Lists.{change}
 use Rattle.values.specs.Ordered.{put_in}
-use Rattle.records.specs.declared.content.App.{App}
-use Rattle.records.specs.declared.content.Cohort.{Cohort}
-use Rattle.records.specs.declared.content.Diff.{Diff}
-use Rattle.records.specs.declared.content.Release.{Release}
+use Rattle.catalogue.specs.declared.content.App.{App}
+use Rattle.catalogue.specs.declared.content.Cohort.{Cohort}
+use Rattle.catalogue.specs.declared.content.Diff.{Diff}
+use Rattle.catalogue.specs.declared.content.Release.{Release}
 use Rattle.catalogue.specs.declared.edits.apps.AddApp.{AddApp}
 use Rattle.catalogue.specs.declared.edits.cohort_settings.CohortSetting.{CohortSetting}
 use Rattle.catalogue.specs.declared.edits.cohort_settings.CohortSetting.TheVariants as setting

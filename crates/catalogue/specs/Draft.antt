@@ -1,8 +1,8 @@
 -- A draft's index finds what its content declares; private to this crate.
 use Rattle.std.specs.Prelude.{◌≡◌, ℕ, List}
-use Rattle.records.specs.Lookups.{declared_of}
+use Rattle.catalogue.specs.Lookups.{declared_of}
 use Rattle.catalogue.specs.PackageIndex.{found_in}
-use Rattle.records.specs.declared.content.App.{App}
+use Rattle.catalogue.specs.declared.content.App.{App}
 use Rattle.catalogue.specs.declared.draft.Draft.{Draft}
 use Rattle.catalogue.specs.declared.package_index.PackageIndex.{PackageIndex}
 

@@ -7,7 +7,7 @@ pub mod Diffs
 pub mod ReleaseSettings
 pub mod Releases
 use Rattle.std.specs.Prelude.{List, Option}
-use Rattle.records.specs.Versions.{lenient_version_of}
+use Rattle.catalogue.specs.Versions.{lenient_version_of}
 use Rattle.catalogue.specs.Changes.{Change, NewApp, NewCohort, NewDiff, NewRelease, SetsCohort, SetsRelease, changed}
 use Rattle.catalogue.specs.Edits.Apps.{tests_of_add_app}
 use Rattle.catalogue.specs.Edits.CohortSettings.{setting_of_set_target, tests_of_set_open, tests_of_set_rollback, tests_of_set_share, tests_of_set_target}
@@ -16,7 +16,7 @@ use Rattle.catalogue.specs.Edits.Diffs.{tests_of_add_diff}
 use Rattle.catalogue.specs.Edits.ReleaseSettings.{tests_of_set_audience, tests_of_set_floor, tests_of_set_stone, tests_of_set_withdrawn}
 use Rattle.catalogue.specs.Edits.Releases.{tests_of_add_release}
 use Rattle.catalogue.specs.Faults.{first_fault}
-use Rattle.records.specs.declared.content.App.{App}
+use Rattle.catalogue.specs.declared.content.App.{App}
 use Rattle.catalogue.specs.declared.edit.Edit.{Edit}
 use Rattle.catalogue.specs.declared.edit.Edit.TheVariants as edit
 use Rattle.catalogue.specs.declared.edits.cohort_settings.CohortSetting.TheVariants as setting

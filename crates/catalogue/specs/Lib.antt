@@ -2,7 +2,14 @@ pub mod Batches
 pub mod Changes
 pub mod Draft
 pub mod Edits
-pub mod Faults
 pub mod FaultStrings
+pub mod Faults
+pub mod Forms
+pub mod Limits
+pub mod Lookups
+pub mod Mirrors
 pub mod PackageIndex
 pub mod Soundness
+pub mod Validity
+pub mod VersionLaws
+pub mod Versions

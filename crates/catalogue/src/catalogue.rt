@@ -1,14 +1,16 @@
 ghost use Rattle.std.specs.Prelude.{◌≡◌, ◌<◌, [], length, slice_get, IfOk, IfErr, OnOk, OnErr, Some, Ok, position};
 ghost use Rattle.catalogue.specs.Batches.{outcome};
-ghost use Rattle.records.specs.Validity.{IsValid};
-ghost use Rattle.records.specs.Lookups.{cohorts_at, declared_of, diffs_at, has_hash, is_app, is_cohort, is_diff, is_release, releases_at};
+ghost use Rattle.catalogue.specs.Validity.{IsValid};
+ghost use Rattle.catalogue.specs.Lookups.{cohorts_at, declared_of, diffs_at, has_hash, is_app, is_cohort, is_diff, is_release, releases_at};
 ghost use Rattle.values.specs.Reading.{Explains};
 
+use crate::content::{App, Cohort, Diff, Release};
 use crate::draft::Draft;
 use crate::edit::Batch;
 use crate::fault::Refused;
 use crate::package_index::PackageIndex;
-use records::{App, Cohort, Declared, Diff, Release, Version, lookup};
+use crate::version::Version;
+use crate::{Declared, lookup};
 use std::alloc::{AllocError, Global};
 use std::marker::Model;
 use values::{Items, ReadError, Shared};
@@ -23,7 +25,7 @@ pub struct Catalogue {
 
 impl Model for Catalogue {
     ghost use Rattle.std.specs.Prelude.{List};
-    ghost use Rattle.records.specs.declared.content.App.{App};
+    ghost use Rattle.catalogue.specs.declared.content.App.{App};
 
     ghost Value = { List App };
 

@@ -3,18 +3,20 @@
 ghost use Rattle.std.specs.Prelude.{◌≡◌, ◌&&◌, ◌++◌, ◌∷◌, [], List, ℕ, None, true, IfOk, OnOk, option_map, position};
 ghost use Rattle.catalogue.specs.Changes.{in_cohort, in_release, new_app, new_cohort, new_diff, new_release, placed, placed_diff, with_cohort, with_diff, with_release, with_release_setting, with_setting};
 ghost use Rattle.values.specs.Lists.{change};
-ghost use Rattle.records.specs.Lookups.{is_app, is_cohort, is_release};
+ghost use Rattle.catalogue.specs.Lookups.{is_app, is_cohort, is_release};
 ghost use Rattle.values.specs.Ordered.{ascend};
-ghost use Rattle.records.specs.Validity.{IsValid, is_diff_before, is_release_below};
+ghost use Rattle.catalogue.specs.Validity.{IsValid, is_diff_before, is_release_below};
 
+use crate::content::{App, Cohort, Diff, Release};
 use crate::edits::apps::AddApp;
 use crate::edits::cohort_settings::CohortSetting;
 use crate::edits::cohorts::AddCohort;
 use crate::edits::diffs::AddDiff;
 use crate::edits::release_settings::ReleaseSetting;
 use crate::edits::releases::AddRelease;
-use records::form::hash_named;
-use records::{App, Cohort, Diff, Release, Version, lookup};
+use crate::form::hash_named;
+use crate::lookup;
+use crate::version::Version;
 use std::alloc::{AllocError, Global};
 use values::{Items, Shared, SharedItems, Text};
 

@@ -2,7 +2,7 @@
 
 ghost use Rattle.std.specs.Prelude.{◌≡◌, None, Ok, Some, true, false, OnOk, OnErr, IfOk, IfErr};
 ghost use Rattle.std.specs.Option.{is_none};
-ghost use Rattle.records.specs.Versions.{lenient_version_of, version_of};
+ghost use Rattle.catalogue.specs.Versions.{lenient_version_of, version_of};
 ghost use Rattle.catalogue.specs.Batches.{outcome};
 ghost use Rattle.catalogue.specs.Changes.{NewApp, NewCohort, NewDiff, NewRelease, SetsCohort, SetsRelease, changed};
 ghost use Rattle.catalogue.specs.Draft.{Becomes, Indexes, IsIndexed};
@@ -10,16 +10,17 @@ ghost use Rattle.catalogue.specs.Edits.{after, fault_of};
 ghost use Rattle.catalogue.specs.Edits.Diffs.{tests_of_add_diff};
 ghost use Rattle.catalogue.specs.Edits.Releases.{tests_of_add_release};
 ghost use Rattle.catalogue.specs.Faults.{first_fault};
-ghost use Rattle.records.specs.Lookups.{app_of, has_cohort, has_release};
+ghost use Rattle.catalogue.specs.Lookups.{app_of, has_cohort, has_release};
 ghost use Rattle.values.specs.Ordered.{ascend};
 ghost use Rattle.values.specs.Reading.{Explains};
-ghost use Rattle.records.specs.Validity.{IsValid, is_diff_before, is_release_below};
+ghost use Rattle.catalogue.specs.Validity.{IsValid, is_diff_before, is_release_below};
 ghost use Rattle.catalogue.specs.declared.fault.Fault.TheVariants.{BadVersion, UnknownApp, UnknownCohort, UnknownRelease};
 
 use crate::change::{
     add_cohort_to, added_cohort, new_app, new_diff, new_release, place_diff_in, place_in,
     set_cohort_in_apps, set_release_in_apps,
 };
+use crate::content::App;
 use crate::edit::Edit;
 use crate::edits::apps::AddApp;
 use crate::edits::cohort_settings::CohortSetting;
@@ -29,7 +30,8 @@ use crate::edits::release_settings::ReleaseSetting;
 use crate::edits::releases::AddRelease;
 use crate::fault::{Fault, Refused};
 use crate::package_index::PackageIndex;
-use records::{App, Declared, Version, lookup};
+use crate::version::Version;
+use crate::{Declared, lookup};
 use std::alloc::{AllocError, Global};
 use values::{Items, ReadError, Shared, Text};
 
@@ -250,9 +252,9 @@ impl Draft {
         ensures valid { OnOk result (IsValid self.new.apps) }
         ensures refused { IfErr result (λ e. Explains e (outcome edits.now self.old.apps)) }
     {
-        records::version_laws::order();
-        records::version_laws::spellings();
-        records::version_laws::printing();
+        crate::version_laws::order();
+        crate::version_laws::spellings();
+        crate::version_laws::printing();
         for (index, edit) in edits.iter().enumerate() {
             if let Err(fault) = edit.check(self) {
                 return Err(ReadError::Fault(Refused { index, fault }));

@@ -2,7 +2,7 @@ ghost use Rattle.std.specs.Prelude.{◌≡◌, IfOk};
 ghost use Rattle.std.specs.Result.{result_err};
 ghost use Rattle.catalogue.specs.Draft.{IsIndexed};
 ghost use Rattle.catalogue.specs.Edits.{fault_of};
-ghost use Rattle.records.specs.Validity.{IsValid};
+ghost use Rattle.catalogue.specs.Validity.{IsValid};
 
 use crate::draft::Draft;
 use crate::edits::apps::AddApp;

@@ -9,7 +9,7 @@ ghost use Rattle.std.specs.Arc.{arc_value};
 ghost use Rattle.std.specs.Str.{bytes_eq};
 ghost use Rattle.catalogue.specs.PackageIndex.{found_in, found_in_shard, shard_of};
 
-use records::Declared;
+use crate::Declared;
 use std::alloc::{AllocError, Global};
 use std::collections::BTreeMap;
 use std::sync::Arc;

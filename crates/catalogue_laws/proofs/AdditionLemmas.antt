@@ -17,13 +17,13 @@ use Rattle.values.proofs.InsertionLemmas.{Inserts-insert, Inserts-push}
 use Rattle.catalogue.specs.Changes.{Change, NewApp, NewCohort, NewDiff, NewRelease, SetsCohort, SetsRelease, changed, in_cohort, in_release, new_app, new_cohort, new_diff, new_release, placed, placed_diff, with_cohort, with_diff, with_release, with_release_setting, with_setting}
 use Rattle.values.specs.Lists.{change}
 use Rattle.catalogue.specs.Edits.{after, change_of, fault_of}
-use Rattle.records.specs.Forms.{same_id}
+use Rattle.catalogue.specs.Forms.{same_id}
 use Rattle.catalogue_laws.specs.Histories.{adds_app, adds_cohort, adds_diff, adds_release, same_diff, same_release}
-use Rattle.records.specs.Lookups.{app_of, cohorts_of, diffs_of, has_cohort, is_app, is_cohort, is_release, pair_of, place_of, place_of_pair, releases_of}
-use Rattle.records.specs.declared.content.App.{App}
-use Rattle.records.specs.declared.content.Cohort.{Cohort}
-use Rattle.records.specs.declared.content.Diff.{Diff}
-use Rattle.records.specs.declared.content.Release.{Release}
+use Rattle.catalogue.specs.Lookups.{app_of, cohorts_of, diffs_of, has_cohort, is_app, is_cohort, is_release, pair_of, place_of, place_of_pair, releases_of}
+use Rattle.catalogue.specs.declared.content.App.{App}
+use Rattle.catalogue.specs.declared.content.Cohort.{Cohort}
+use Rattle.catalogue.specs.declared.content.Diff.{Diff}
+use Rattle.catalogue.specs.declared.content.Release.{Release}
 use Rattle.catalogue.specs.declared.edit.Edit.{Edit}
 use Rattle.catalogue.specs.declared.edit.Edit.TheVariants as edit
 use Rattle.catalogue.specs.declared.edits.release_settings.ReleaseSetting.{ReleaseSetting}

@@ -7,8 +7,8 @@ use Rattle.std.specs.Str.{bytes_eq}
 use Rattle.std.proofs.lemmas.Bool.{eqb-true, or_parts}
 use Rattle.std.proofs.lemmas.List.{append-nil, map-append}
 use Rattle.std.proofs.lemmas.Slice.Eq.{bytes_eq-Decides}
-use Rattle.records.specs.VersionLaws.{LenientAgrees}
-use Rattle.records.specs.Versions.{is_below, lenient_version_of, printed, version_of, zero_version}
+use Rattle.catalogue.specs.VersionLaws.{LenientAgrees}
+use Rattle.catalogue.specs.Versions.{is_below, lenient_version_of, printed, version_of, zero_version}
 use Rattle.catalogue.proofs.AcceptedLemmas.{None-from_not_some}
 use Rattle.catalogue.proofs.AppLemmas.{lowered}
 use Rattle.catalogue.proofs.ValidCohortLemmas.{ValidCohort, ValidCohort-from_test}
@@ -16,7 +16,7 @@ use Rattle.catalogue.proofs.ValidDiffLemmas.{ValidDiff, ValidDiff-from_test}
 use Rattle.catalogue.proofs.ValidReleaseLemmas.{ValidRelease, ValidRelease-from_test}
 use Rattle.catalogue_laws.proofs.HistoryLemmas.{Makes, Makes-append}
 use Rattle.values.proofs.InsertedLemmas.{list_all-weaker}
-use Rattle.records.proofs.KeyLemmas.{IsOrder-pairs, IsOrder-versions, VersionLaws}
+use Rattle.catalogue.proofs.KeyLemmas.{IsOrder-pairs, IsOrder-versions, VersionLaws}
 use Rattle.catalogue_laws.proofs.LastAppLemmas.{accepts_app, accepts_audience, accepts_cohort, accepts_diff, accepts_floor, accepts_open, accepts_release, accepts_rollback, accepts_share, accepts_stone, accepts_targets, accepts_withdrawn, bytes_eq-same, change-last}
 use Rattle.catalogue_laws.proofs.LastPackageLemmas.{added, added_diff, bare_release, declared_of-diff, declared_of-release, new_diff-added, new_release-added}
 use Rattle.catalogue_laws.proofs.MakingLemmas.{Makes-each, Makes-each_one, Makes-flag, Makes-one, Makes-option, Makes-same, outcome_from-Makes}
@@ -28,14 +28,14 @@ use Rattle.catalogue.specs.Changes.{in_cohort, in_release, new_cohort, new_diff,
 use Rattle.values.specs.Lists.{change}
 use Rattle.catalogue_laws.specs.Contents.{default_name, edit_of_cohort, edit_of_diff, edit_of_floor, edit_of_open, edit_of_release, edit_of_rollback, edit_of_share, edits_of_app, edits_of_audience, edits_of_content, edits_of_floor, edits_of_open, edits_of_release, edits_of_rollback, edits_of_settings, edits_of_share, edits_of_stone, edits_of_targets, edits_of_withdrawn, spelling_of}
 use Rattle.catalogue.specs.Edits.CohortSettings.{setting_of_set_target}
-use Rattle.records.specs.Limits.{max_apps, max_cohorts, max_diffs, max_releases, max_share}
-use Rattle.records.specs.Lookups.{has_cohort, has_diff, has_hash, has_release, is_app, is_cohort, is_pair_below, is_release, packages_of, pair_of, same_pair}
-use Rattle.records.specs.Validity.{IsValid, IsValidApp, has_valid_floor, is_diff_before, is_valid_audience, is_valid_release, is_package, is_release_below, spells}
+use Rattle.catalogue.specs.Limits.{max_apps, max_cohorts, max_diffs, max_releases, max_share}
+use Rattle.catalogue.specs.Lookups.{has_cohort, has_diff, has_hash, has_release, is_app, is_cohort, is_pair_below, is_release, packages_of, pair_of, same_pair}
+use Rattle.catalogue.specs.Validity.{IsValid, IsValidApp, has_valid_floor, is_diff_before, is_valid_audience, is_valid_release, is_package, is_release_below, spells}
 use Rattle.values.specs.Lists.{IsOnce}
-use Rattle.records.specs.declared.content.App.{App}
-use Rattle.records.specs.declared.content.Cohort.{Cohort}
-use Rattle.records.specs.declared.content.Diff.{Diff}
-use Rattle.records.specs.declared.content.Release.{Release}
+use Rattle.catalogue.specs.declared.content.App.{App}
+use Rattle.catalogue.specs.declared.content.Cohort.{Cohort}
+use Rattle.catalogue.specs.declared.content.Diff.{Diff}
+use Rattle.catalogue.specs.declared.content.Release.{Release}
 use Rattle.catalogue.specs.declared.edit.Edit.TheVariants as edit
 use Rattle.catalogue.specs.declared.edits.cohort_settings.CohortSetting.TheVariants as setting
 use Rattle.catalogue.specs.declared.edits.cohort_settings.SetTarget.{SetTarget}

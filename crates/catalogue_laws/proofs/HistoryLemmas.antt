@@ -7,7 +7,7 @@ use Rattle.std.specs.Option.{unwrap_or}
 use Rattle.catalogue.specs.Batches.{outcome, outcome_from, run, then_run, unless_refused}
 use Rattle.catalogue.specs.Edits.{after, fault_of}
 use Rattle.catalogue_laws.specs.Histories.{edits_of, last_set}
-use Rattle.records.specs.declared.content.App.{App}
+use Rattle.catalogue.specs.declared.content.App.{App}
 use Rattle.catalogue.specs.declared.edit.Edit.{Edit}
 use Rattle.catalogue.specs.declared.fault.Fault.{Fault}
 use Rattle.catalogue.specs.declared.fault.Refused.{Refused}

@@ -5,7 +5,7 @@ use Rattle.std.specs.Option.{is_none, is_some, option_map_or}
 use Rattle.std.specs.Str.{bytes_eq}
 use Rattle.std.proofs.lemmas.Bool.{lt-leb, not_from_true, or_from}
 use Rattle.std.proofs.lemmas.Slice.Eq.{bytes_eq-Decides}
-use Rattle.records.specs.Versions.{is_below, lenient_version_of, version_of}
+use Rattle.catalogue.specs.Versions.{is_below, lenient_version_of, version_of}
 use Rattle.catalogue.proofs.AppLemmas.{lowered}
 use Rattle.catalogue_laws.proofs.MakingLemmas.{None-from_NoneHold}
 use Rattle.values.proofs.SplitLemmas.{change-at_item, find-at, find-nowhere}
@@ -17,11 +17,11 @@ use Rattle.catalogue.specs.Edits.Cohorts.{tests_of_add_cohort}
 use Rattle.catalogue.specs.Edits.Diffs.{tests_of_add_diff}
 use Rattle.catalogue.specs.Edits.ReleaseSettings.{tests_of_set_audience, tests_of_set_floor, tests_of_set_stone, tests_of_set_withdrawn}
 use Rattle.catalogue.specs.Edits.Releases.{tests_of_add_release}
-use Rattle.records.specs.Forms.{hash_named, hash_of, is_app_id, is_cohort_name, is_package_name, is_size}
-use Rattle.records.specs.Limits.{max_apps, max_cohorts, max_diffs, max_releases, max_share}
-use Rattle.records.specs.Lookups.{app_of, declared_of, has_cohort, has_diff, has_hash, has_release, is_app}
-use Rattle.records.specs.Validity.{is_valid_audience}
-use Rattle.records.specs.declared.content.App.{App}
+use Rattle.catalogue.specs.Forms.{hash_named, hash_of, is_app_id, is_cohort_name, is_package_name, is_size}
+use Rattle.catalogue.specs.Limits.{max_apps, max_cohorts, max_diffs, max_releases, max_share}
+use Rattle.catalogue.specs.Lookups.{app_of, declared_of, has_cohort, has_diff, has_hash, has_release, is_app}
+use Rattle.catalogue.specs.Validity.{is_valid_audience}
+use Rattle.catalogue.specs.declared.content.App.{App}
 use Rattle.values.specs.declared.declared.Declared.{Declared}
 use Rattle.catalogue.specs.declared.edit.Edit.TheVariants as edit
 use Rattle.catalogue.specs.declared.edits.apps.AddApp.{AddApp}

@@ -4,8 +4,8 @@ use Rattle.std.specs.Map.{lookup}
 use Rattle.std.specs.Str.{bytes_eq}
 use Rattle.std.proofs.lemmas.Grind.{flat_map-append}
 use Rattle.std.proofs.lemmas.List.{append-nil, map-append}
-use Rattle.records.specs.VersionLaws.{LenientAgrees}
-use Rattle.records.specs.Versions.{zero_version}
+use Rattle.catalogue.specs.VersionLaws.{LenientAgrees}
+use Rattle.catalogue.specs.Versions.{zero_version}
 use Rattle.hex.specs.Hex.{encode_lower}
 use Rattle.catalogue.proofs.ValidDiffLemmas.{ValidDiff}
 use Rattle.catalogue.proofs.ValidReleaseLemmas.{ValidRelease}
@@ -14,14 +14,14 @@ use Rattle.catalogue_laws.proofs.SpellingLemmas.{hash_named-encode_lower, lenien
 use Rattle.values.proofs.SplitLemmas.{list_any-before, lookup-nowhere}
 use Rattle.catalogue.specs.Changes.{new_diff, new_release}
 use Rattle.catalogue_laws.specs.Contents.{spelling_of}
-use Rattle.records.specs.Lookups.{declared_of, diff_package, full_package, packages_in, packages_of}
-use Rattle.records.specs.Validity.{is_package, spells}
+use Rattle.catalogue.specs.Lookups.{declared_of, diff_package, full_package, packages_in, packages_of}
+use Rattle.catalogue.specs.Validity.{is_package, spells}
 use Rattle.values.specs.Lists.{IsOnce}
-use Rattle.records.specs.declared.content.App.{App}
-use Rattle.records.specs.declared.content.Cohort.{Cohort}
+use Rattle.catalogue.specs.declared.content.App.{App}
+use Rattle.catalogue.specs.declared.content.Cohort.{Cohort}
 use Rattle.values.specs.declared.declared.Declared.{Declared}
-use Rattle.records.specs.declared.content.Diff.{Diff}
-use Rattle.records.specs.declared.content.Release.{Release}
+use Rattle.catalogue.specs.declared.content.Diff.{Diff}
+use Rattle.catalogue.specs.declared.content.Release.{Release}
 use Rattle.catalogue.specs.declared.edits.diffs.AddDiff.{AddDiff}
 use Rattle.catalogue.specs.declared.edits.releases.AddRelease.{AddRelease}
 

@@ -8,7 +8,7 @@ use Rattle.catalogue_laws.proofs.HistoryLemmas.{Makes, Makes-append}
 use Rattle.values.proofs.SplitLemmas.{split_next}
 use Rattle.catalogue.specs.Batches.{outcome_from, unless_refused}
 use Rattle.catalogue.specs.Faults.{first_fault}
-use Rattle.records.specs.declared.content.App.{App}
+use Rattle.catalogue.specs.declared.content.App.{App}
 use Rattle.catalogue.specs.declared.edit.Edit.{Edit}
 use Rattle.catalogue.specs.declared.fault.Fault.{Fault}
 use Rattle.catalogue.specs.Edits.{after, fault_of}

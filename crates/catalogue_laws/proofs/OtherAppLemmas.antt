@@ -6,10 +6,10 @@ use Rattle.catalogue_laws.proofs.HistoryLemmas.{Makes}
 use Rattle.catalogue.specs.Changes.{Change, NewApp, NewCohort, NewDiff, NewRelease, SetsCohort, SetsRelease, changed, in_cohort, in_release, new_app, new_cohort, new_diff, new_release, with_cohort, with_diff, with_release, with_release_setting, with_setting}
 use Rattle.values.specs.Lists.{change}
 use Rattle.catalogue.specs.Edits.{after, change_of}
-use Rattle.records.specs.Forms.{same_id}
+use Rattle.catalogue.specs.Forms.{same_id}
 use Rattle.catalogue_laws.specs.Histories.{app_named}
-use Rattle.records.specs.Lookups.{is_app}
-use Rattle.records.specs.declared.content.App.{App}
+use Rattle.catalogue.specs.Lookups.{is_app}
+use Rattle.catalogue.specs.declared.content.App.{App}
 use Rattle.catalogue.specs.declared.edit.Edit.{Edit}
 use Rattle.catalogue.specs.declared.edit.Edit.TheVariants as edit
 

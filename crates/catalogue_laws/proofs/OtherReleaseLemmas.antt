@@ -7,10 +7,10 @@ use Rattle.catalogue_laws.proofs.OtherAppLemmas.{app_changed, app_named-change_o
 use Rattle.catalogue.specs.Changes.{Change, NewApp, NewCohort, NewDiff, NewRelease, SetsCohort, SetsRelease, changed, in_cohort, new_app, new_cohort, with_cohort, with_setting}
 use Rattle.values.specs.Lists.{change}
 use Rattle.catalogue.specs.Edits.{after, change_of}
-use Rattle.records.specs.Forms.{same_id}
+use Rattle.catalogue.specs.Forms.{same_id}
 use Rattle.catalogue_laws.specs.Histories.{app_named, changes_releases, changes_releases_of, HasReleasesOf}
-use Rattle.records.specs.Lookups.{is_app}
-use Rattle.records.specs.declared.content.App.{App}
+use Rattle.catalogue.specs.Lookups.{is_app}
+use Rattle.catalogue.specs.declared.content.App.{App}
 use Rattle.catalogue.specs.declared.edit.Edit.{Edit}
 use Rattle.catalogue.specs.declared.edit.Edit.TheVariants as edit
 

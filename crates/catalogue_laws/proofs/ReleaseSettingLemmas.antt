@@ -5,7 +5,7 @@ use Rattle.std.specs.List.{list_any}
 use Rattle.std.specs.Option.{option_map, option_map_or, unwrap_or}
 use Rattle.std.specs.Str.{bytes_eq}
 use Rattle.std.proofs.lemmas.Slice.Eq.{bytes_eq-Decides}
-use Rattle.records.specs.Versions.{lenient_version_of, zero_version}
+use Rattle.catalogue.specs.Versions.{lenient_version_of, zero_version}
 use Rattle.catalogue.proofs.Accepted.ReleaseSettings.{NamesRelease, TakesReleaseSetting}
 use Rattle.catalogue.proofs.Accepted.Releases.{TakesRelease}
 use Rattle.catalogue.proofs.AppLemmas.{read_app-change, read_app-kept, read_app-push_none, read_app-same_id, read_app-then}
@@ -17,11 +17,11 @@ use Rattle.values.proofs.ReadLemmas.{read_found, read_found-Inserts}
 use Rattle.catalogue.specs.Changes.{Change, NewApp, NewCohort, NewDiff, NewRelease, SetsCohort, SetsRelease, changed, in_cohort, in_release, new_app, new_cohort, new_diff, new_release, placed, with_cohort, with_diff, with_release, with_release_setting, with_setting}
 use Rattle.values.specs.Lists.{change}
 use Rattle.catalogue.specs.Edits.{after, change_of, fault_of}
-use Rattle.records.specs.Forms.{same_id}
+use Rattle.catalogue.specs.Forms.{same_id}
 use Rattle.catalogue_laws.specs.Histories.{audience_of, floor_of, is_stone, is_withdrawn, names_release, read_release, sets_audience, sets_floor, sets_stone, sets_withdrawn}
-use Rattle.records.specs.Lookups.{app_of, is_app, is_release, place_of, releases_of}
-use Rattle.records.specs.declared.content.App.{App}
-use Rattle.records.specs.declared.content.Release.{Release}
+use Rattle.catalogue.specs.Lookups.{app_of, is_app, is_release, place_of, releases_of}
+use Rattle.catalogue.specs.declared.content.App.{App}
+use Rattle.catalogue.specs.declared.content.Release.{Release}
 use Rattle.catalogue.specs.declared.edit.Edit.{Edit}
 use Rattle.catalogue.specs.declared.edit.Edit.TheVariants as edit
 use Rattle.catalogue.specs.declared.edits.release_settings.ReleaseSetting.{ReleaseSetting}

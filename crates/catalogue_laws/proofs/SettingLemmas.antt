@@ -4,7 +4,7 @@ use Rattle.std.specs.Option.{option_map, option_map_or, option_or, unwrap_or}
 use Rattle.std.specs.Str.{bytes_eq}
 use Rattle.std.proofs.lemmas.List.Folds.{find-append}
 use Rattle.std.proofs.lemmas.Slice.Eq.{bytes_eq-Decides}
-use Rattle.records.specs.Versions.{lenient_version_of}
+use Rattle.catalogue.specs.Versions.{lenient_version_of}
 use Rattle.catalogue.proofs.Accepted.CohortSettings.{NamesCohort, TakesSetting}
 use Rattle.catalogue.proofs.AppLemmas.{read_app-change, read_app-kept, read_app-push_none, read_app-same_id, read_app-then}
 use Rattle.catalogue.proofs.FitLemmas.{Fits-accepted}
@@ -14,11 +14,11 @@ use Rattle.catalogue.specs.Changes.{Change, NewApp, NewCohort, NewDiff, NewRelea
 use Rattle.values.specs.Lists.{change}
 use Rattle.catalogue.specs.Edits.{after, change_of, fault_of}
 use Rattle.catalogue.specs.Edits.CohortSettings.{setting_of_set_target}
-use Rattle.records.specs.Forms.{same_id}
+use Rattle.catalogue.specs.Forms.{same_id}
 use Rattle.catalogue_laws.specs.Histories.{Targets, has_rollback, is_open, names_cohort, read_cohort, sets_open, sets_rollback, sets_share, sets_targets, share_of, targets_of}
-use Rattle.records.specs.Lookups.{cohorts_of, is_app, is_cohort}
-use Rattle.records.specs.declared.content.App.{App}
-use Rattle.records.specs.declared.content.Cohort.{Cohort}
+use Rattle.catalogue.specs.Lookups.{cohorts_of, is_app, is_cohort}
+use Rattle.catalogue.specs.declared.content.App.{App}
+use Rattle.catalogue.specs.declared.content.Cohort.{Cohort}
 use Rattle.catalogue.specs.declared.edit.Edit.{Edit}
 use Rattle.catalogue.specs.declared.edit.Edit.TheVariants as edit
 use Rattle.catalogue.specs.declared.edits.cohort_settings.CohortSetting.{CohortSetting}

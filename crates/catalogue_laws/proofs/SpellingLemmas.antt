@@ -8,13 +8,13 @@ use Rattle.std.proofs.lemmas.Bool.{and_from, and_parts, eqb-true, leb-true, not_
 use Rattle.std.proofs.lemmas.Slice.Eq.{bytes_eq-Decides}
 use Rattle.hex.specs.Hex.{IsBytes, decode_sized, encode_lower, encode_with, lower_digits}
 use Rattle.hex.proofs.HexLemmas.{decode_sized-encode_lower}
-use Rattle.records.specs.VersionLaws.{LenientAgrees}
-use Rattle.records.specs.Versions.{lenient_version_of, version_of}
+use Rattle.catalogue.specs.VersionLaws.{LenientAgrees}
+use Rattle.catalogue.specs.Versions.{lenient_version_of, version_of}
 use Rattle.catalogue_laws.specs.Contents.{spelling_of}
-use Rattle.records.specs.Forms.{hash_named, hash_of, is_hash, is_hash_digit}
-use Rattle.records.specs.Lookups.{has_release, is_release}
-use Rattle.records.specs.Validity.{is_released, spells}
-use Rattle.records.specs.declared.content.Release.{Release}
+use Rattle.catalogue.specs.Forms.{hash_named, hash_of, is_hash, is_hash_digit}
+use Rattle.catalogue.specs.Lookups.{has_release, is_release}
+use Rattle.catalogue.specs.Validity.{is_released, spells}
+use Rattle.catalogue.specs.declared.content.Release.{Release}
 use Rattle.catalogue.specs.Edits.CohortSettings.{is_misspelled, is_unreleased}
 
 -- the string is read as the version

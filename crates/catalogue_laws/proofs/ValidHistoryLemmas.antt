@@ -3,10 +3,10 @@ use Rattle.std.proofs.Common.{List}
 use Rattle.catalogue.proofs.ValidityLemmas.{IsValid-after}
 use Rattle.catalogue.specs.declared.edit.Edit.{Edit}
 use Rattle.catalogue_laws.proofs.HistoryLemmas.{Makes, holds-Makes}
-use Rattle.records.proofs.KeyLemmas.{VersionLaws}
-use Rattle.records.specs.Validity.{IsValid}
-use Rattle.records.specs.declared.content.App.{App}
-use Rattle.records.specs.VersionLaws.{LenientAgrees, PrintIsPlain}
+use Rattle.catalogue.proofs.KeyLemmas.{VersionLaws}
+use Rattle.catalogue.specs.Validity.{IsValid}
+use Rattle.catalogue.specs.declared.content.App.{App}
+use Rattle.catalogue.specs.VersionLaws.{LenientAgrees, PrintIsPlain}
 
 module _ (laws : VersionLaws) (agrees : LenientAgrees) (plain : PrintIsPlain) where
   -- what accepted edits make of a valid content

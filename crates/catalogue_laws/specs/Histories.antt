@@ -4,16 +4,16 @@ use Rattle.std.specs.Prelude.{◌≡◌, ℕ, ◌==◌, ◌&&◌, ◌++◌, Bool
 use Rattle.std.specs.List.{list_any, flat_map, slice_get}
 use Rattle.std.specs.Option.{option_map_or}
 use Rattle.std.specs.Str.{bytes_eq}
-use Rattle.records.specs.Versions.{lenient_version_of, zero_version}
+use Rattle.catalogue.specs.Versions.{lenient_version_of, zero_version}
 use Rattle.catalogue.specs.Batches.{outcome, run}
 use Rattle.catalogue.specs.Changes.{new_diff, new_release}
-use Rattle.records.specs.Forms.{same_id}
-use Rattle.records.specs.Lookups.{cohorts_of, diffs_of, has_cohort, is_app, is_cohort, is_release, pair_of, releases_of, same_pair}
-use Rattle.records.specs.Validity.{IsValid}
-use Rattle.records.specs.declared.content.App.{App}
-use Rattle.records.specs.declared.content.Cohort.{Cohort}
-use Rattle.records.specs.declared.content.Diff.{Diff}
-use Rattle.records.specs.declared.content.Release.{Release}
+use Rattle.catalogue.specs.Forms.{same_id}
+use Rattle.catalogue.specs.Lookups.{cohorts_of, diffs_of, has_cohort, is_app, is_cohort, is_release, pair_of, releases_of, same_pair}
+use Rattle.catalogue.specs.Validity.{IsValid}
+use Rattle.catalogue.specs.declared.content.App.{App}
+use Rattle.catalogue.specs.declared.content.Cohort.{Cohort}
+use Rattle.catalogue.specs.declared.content.Diff.{Diff}
+use Rattle.catalogue.specs.declared.content.Release.{Release}
 use Rattle.catalogue.specs.declared.edit.Edit.{Edit}
 use Rattle.catalogue.specs.declared.edit.Edit.TheVariants as edit
 

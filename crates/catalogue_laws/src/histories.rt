@@ -58,9 +58,9 @@ pub fn other_releases()
 pub fn validity()
     ensures { HistoriesAreValid }
 {
-    records::version_laws::order();
-    records::version_laws::spellings();
-    records::version_laws::printing();
+    catalogue::version_laws::order();
+    catalogue::version_laws::spellings();
+    catalogue::version_laws::printing();
 }
 
 /// States that the edits of a valid content, in the order of a profile, are accepted from the empty
@@ -68,8 +68,8 @@ pub fn validity()
 pub fn contents()
     ensures { ContentsAreMade }
 {
-    records::version_laws::order();
-    records::version_laws::spellings();
+    catalogue::version_laws::order();
+    catalogue::version_laws::spellings();
 }
 
 /// Shows the edits of a small content, in their order.

@@ -2,8 +2,7 @@
 
 use crate::lines::catalogue_of;
 use crate::rows::{three_parts, two_parts};
-use catalogue::{Catalogue, Refused};
-use records::Version;
+use catalogue::{Catalogue, Refused, Version};
 use std::alloc::Global;
 use std::process::Abort;
 use std::test::Fail;

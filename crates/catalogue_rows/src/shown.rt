@@ -1,7 +1,6 @@
 // A catalogue as a string, a line an item.
 
-use catalogue::{App, Catalogue, Cohort, Diff, Release};
-use records::Version;
+use catalogue::{App, Catalogue, Cohort, Diff, Release, Version};
 use std::alloc::{AllocError, Global};
 use values::{Items, Text};
 

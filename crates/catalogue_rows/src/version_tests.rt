@@ -1,7 +1,7 @@
 // Rows of strings that spell versions, and of versions in order; it holds tests alone.
 
 use crate::rows::{check, three_parts, two_parts};
-use records::Version;
+use catalogue::Version;
 use std::alloc::{AllocError, Global};
 use std::process::Abort;
 use std::test::Fail;

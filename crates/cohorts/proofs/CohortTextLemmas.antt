@@ -6,7 +6,7 @@ use Rattle.std.specs.Str.Parse.{digits_value}
 use Rattle.std.proofs.lemmas.Bool.{and_parts, eqb-true, false_from_ne_true, false≢true}
 use Rattle.std.proofs.lemmas.List.{drop_all, drop_at, length-append, length-drop, take_at}
 use Rattle.std.proofs.lemmas.List.Sums.{passes_at_first, split_at_first}
-use Rattle.records.specs.Forms.{is_cohort_byte, is_cohort_name}
+use Rattle.catalogue.specs.Forms.{is_cohort_byte, is_cohort_name}
 use Rattle.cohorts.specs.CohortTexts.{bucket_of, is_bucket, is_colon, named, parsed, printed}
 use Rattle.cohorts.proofs.BucketLemmas.{bucket_nonempty, bucket_of-decimal, decimal-bucket}
 

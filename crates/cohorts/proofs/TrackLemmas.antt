@@ -1,7 +1,7 @@
 -- What a parsed cohort text says of a client's bucket, and the cohort at an index.
 use Rattle.std.proofs.Common.{◌≡◌, ℕ, zero, suc, ◌<◌, List, [], ◌∷◌, length, get_or, arith, Option, None, Some, option_map, IfSome, Bor, refl, sym, subst}
 use Rattle.std.specs.Option.{option_map_or}
-use Rattle.records.specs.declared.content.Cohort.{Cohort}
+use Rattle.catalogue.specs.declared.content.Cohort.{Cohort}
 use Rattle.cohorts.specs.CohortTexts.{parsed}
 use Rattle.cohorts.specs.Laws.{ParsedIsPrinted}
 use Rattle.cohorts.specs.Tracks.{cohort_at}

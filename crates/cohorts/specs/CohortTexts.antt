@@ -4,7 +4,7 @@ use Rattle.std.specs.Prelude.{ℕ, ◌==◌, ◌&&◌, not, Bool, if◌then◌el
 use Rattle.std.specs.List.{before_first, after_first, list_all}
 use Rattle.std.specs.Char.{is_ascii_digit}
 use Rattle.std.specs.Str.Parse.{digits_value}
-use Rattle.records.specs.Forms.{has_length, is_cohort_name}
+use Rattle.catalogue.specs.Forms.{has_length, is_cohort_name}
 
 -- a colon
 abbrev pub is_colon : ℕ → Bool

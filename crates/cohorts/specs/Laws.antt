@@ -1,6 +1,6 @@
 -- What holds of all cohort texts.
 use Rattle.std.specs.Prelude.{◌≡◌, ℕ, ◌<◌, List, Some, true}
-use Rattle.records.specs.Forms.{is_cohort_name}
+use Rattle.catalogue.specs.Forms.{is_cohort_name}
 use Rattle.cohorts.specs.CohortTexts.{parsed, printed}
 
 -- a name and a bucket are read back from their cohort text

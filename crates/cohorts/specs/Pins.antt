@@ -1,7 +1,7 @@
 -- Pins: which versions an administrator allows a client's app; this project's profile of the Omaha protocol's
 -- member `targetversionprefix`.
 use Rattle.std.specs.Prelude.{ℕ, ◌==◌, Bool, true, false, List, [], ◌∷◌, reverse, bytes_eq, Option, None, Some, unwrap_or, if◌then◌else◌}
-use Rattle.records.specs.Versions.{begins_as, client_version_of}
+use Rattle.catalogue.specs.Versions.{begins_as, client_version_of}
 use Rattle.cohorts.specs.declared.pin.Pin.{Pin}
 use Rattle.cohorts.specs.declared.pin.Pin.TheVariants as pin
 

@@ -5,9 +5,9 @@ use Rattle.std.specs.Prelude.{◌≡◌, ℕ, ◌&&◌, ◌%◌, Bool, false, if
 use Rattle.std.specs.Int.{w32, from_be_bytes}
 use Rattle.std.specs.Option.{option_map_or, option_or}
 use Rattle.sha2.specs.Sha256.{sha256}
-use Rattle.records.specs.Lookups.{is_cohort}
-use Rattle.records.specs.declared.content.Cohort.{Cohort}
-use Rattle.records.specs.declared.content.Release.{Release}
+use Rattle.catalogue.specs.Lookups.{is_cohort}
+use Rattle.catalogue.specs.declared.content.Cohort.{Cohort}
+use Rattle.catalogue.specs.declared.content.Release.{Release}
 use Rattle.omaha_json.specs.declared.request.AppAsk.{AppAsk}
 use Rattle.cohorts.specs.CohortTexts.{parsed}
 use Rattle.cohorts.specs.Offers.{track_target}

@@ -7,8 +7,7 @@ ghost use Rattle.cohorts.specs.Offers.{highest_offered, is_offered, is_offered_w
 
 use crate::pin::Pin;
 use crate::track::Lane;
-use catalogue::{Cohort, Release};
-use records::Version;
+use catalogue::{Cohort, Release, Version};
 use values::Text;
 
 fn is_among(name: &str, names: &[Text]) -> bool

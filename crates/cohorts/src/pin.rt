@@ -3,14 +3,14 @@
 ghost use Rattle.std.specs.Prelude.{◌≡◌, ◌<◌, option_map};
 ghost use Rattle.cohorts.specs.Pins.{before, matches, pin_of};
 
-use records::Version;
+use catalogue::Version;
 
 /// Which versions a client's app may be brought to, by the prefix that its administrator set.
 #[derive(Clone, Copy, Debug, PartialEq, Eq, Hash)]
 pub enum Pin {
     /// Any version.
     Any,
-    /// The versions whose first components are those of `records`, so many.
+    /// The versions whose first components are those of `catalogue`, so many.
     Prefix {
         /// The version that the components are of.
         version: Version,

@@ -2,7 +2,7 @@
 
 ghost use Rattle.std.specs.Prelude.{◌≡◌, ◌≤◌, ◌<◌, length, IfSome, option_map, position};
 ghost use Rattle.std.specs.Option.{option_map_or};
-ghost use Rattle.records.specs.Lookups.{cohorts_at, releases_at};
+ghost use Rattle.catalogue.specs.Lookups.{cohorts_at, releases_at};
 ghost use Rattle.cohorts.specs.Tracks.{asks_rollback, cohort_of, hinted_cohort, lane_of, named_cohort, pin_asked, session_bucket, track_in, track_of};
 ghost use Rattle.cohorts.specs.CohortTexts.{parsed};
 
@@ -11,9 +11,8 @@ use crate::laws;
 use crate::offer::track_target;
 use crate::pin::Pin;
 use crate::session::Session;
-use catalogue::{Catalogue, Cohort, Release};
+use catalogue::{Catalogue, Cohort, Release, Version};
 use omaha_json::AppAsk;
-use records::Version;
 
 /// Which of a cohort's two targets a client is meant to have.
 #[derive(Clone, Copy, Debug, PartialEq, Eq, Hash)]

@@ -1,7 +1,7 @@
 // A till that counts what the mirrors grant by it.
 
+use catalogue::Mirror;
 use mirror_ledger::Till;
-use records::Mirror;
 use std::sync::Wait;
 
 /// How many bytes each of at most four mirrors granted.

@@ -4,8 +4,8 @@ use Rattle.std.specs.List.{All, Contains, slice_get}
 use Rattle.std.specs.Option.{option_and_then, option_map, IfSome}
 use Rattle.std.proofs.lemmas.List.Elements.{All-contains}
 use Rattle.catalogue_laws.specs.Histories.{History, LeadsTo}
-use Rattle.records.specs.declared.content.App.{App}
-use Rattle.records.specs.declared.content.Cohort.{Cohort}
+use Rattle.catalogue.specs.declared.content.App.{App}
+use Rattle.catalogue.specs.declared.content.Cohort.{Cohort}
 use Rattle.payload_graph.specs.Chains.{cohort_target}
 use Rattle.payload_graph.specs.declared.payload.TrackKey.{TrackKey}
 use Rattle.payload_graph.specs.Net.{Net, net_among, net_in, net_of}

@@ -1,14 +1,13 @@
 //! The tracks whose graphs a batch may change.
 
 ghost use Rattle.std.specs.Prelude.{◌≡◌, IfOk, Ok, length};
-ghost use Rattle.records.specs.Forms.{same_id};
+ghost use Rattle.catalogue.specs.Forms.{same_id};
 ghost use Rattle.catalogue.specs.Batches.{outcome};
 ghost use Rattle.catalogue_laws.specs.Histories.{app_named, changes_releases, changes_releases_of};
 ghost use Rattle.par_tables.specs.Marks.{KeepsOthers};
 ghost use Rattle.editions.specs.Marks.{cohorts_left, may_change, same_cohort, same_target, AreEach, AreMarksOf, IsMark};
 
-use catalogue::{Batch, Catalogue, Cohort, Edit};
-use records::Version;
+use catalogue::{Batch, Catalogue, Cohort, Edit, Version};
 use std::alloc::{AllocError, Global};
 use values::{Items, Text};
 

@@ -9,7 +9,7 @@ use Rattle.mirror_ledger.specs.Asks.{Ask, granted_at}
 use Rattle.mirror_ledger.specs.Tills.{AreFull}
 use Rattle.publisher.specs.Beginnings.{StartsWith}
 use Rattle.publisher.specs.Sights.{Sight}
-use Rattle.records.specs.declared.mirror.Mirror.{Mirror}
+use Rattle.catalogue.specs.declared.mirror.Mirror.{Mirror}
 use Rattle.service_desks.specs.Workers.{Progress}
 use Rattle.interleavings.specs.Calls.{EntersPublished, HaveRoom, IsBetween, IsWork, Sent, WorkerCallsAreEvents, asks_in, events_of, sent_by, sent_in}
 use Rattle.interleavings.specs.Events.{Event, Publish, happens, run}

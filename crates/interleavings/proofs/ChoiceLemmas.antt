@@ -6,7 +6,7 @@ use Rattle.std.proofs.lemmas.Bool.{and_parts, eqb-true, ltb-true}
 use Rattle.std.proofs.lemmas.List.FromFn.{get_or-range_with_len, length-range_with_len}
 use Rattle.std.proofs.lemmas.List.Sums.{AllPass-from_list_all}
 use Rattle.std.proofs.lemmas.Option.{cond_some}
-use Rattle.records.specs.Versions.{lenient_version_of}
+use Rattle.catalogue.specs.Versions.{lenient_version_of}
 use Rattle.omaha_json.specs.declared.request.AppAsk.{AppAsk}
 use Rattle.omaha_json.specs.declared.request.Request.{Request}
 use Rattle.payload_graph.specs.Chains.{IsChain, cohort_target, destination_of, target_index}
@@ -22,10 +22,10 @@ use Rattle.quotes.specs.ByRows.{CertifiedRowsQuote, quote_by_rows}
 use Rattle.quotes.specs.Quotes.{IsQuote}
 use Rattle.quotes.specs.declared.quote.Quote.{Quote}
 use Rattle.quotes.specs.declared.quote.Quote.TheVariants.{Here, Next, NoChain}
-use Rattle.records.specs.Validity.{IsValid}
-use Rattle.records.specs.declared.content.App.{App}
-use Rattle.records.specs.declared.content.Cohort.{Cohort}
-use Rattle.records.specs.declared.content.Release.{Release}
+use Rattle.catalogue.specs.Validity.{IsValid}
+use Rattle.catalogue.specs.declared.content.App.{App}
+use Rattle.catalogue.specs.declared.content.Cohort.{Cohort}
+use Rattle.catalogue.specs.declared.content.Release.{Release}
 use Rattle.replies.specs.Clients.{Client, key_of}
 use Rattle.replies.specs.Plans.{IsChoice, IsChosen, IsClientChoice, IsPlan, client_to_update}
 use Rattle.theorems.specs.Laws.{TrackGraphsAreGraphs}

@@ -10,10 +10,10 @@ use Rattle.cohorts.specs.declared.track.Track.{Track}
 use Rattle.omaha_json.specs.declared.request.AppAsk.{AppAsk}
 use Rattle.payload_graph.specs.Chains.{cohort_target}
 use Rattle.payload_graph.specs.Net.{Net, net_of}
-use Rattle.records.specs.Lookups.{is_app}
-use Rattle.records.specs.Validity.{IsValid, IsValidApp}
-use Rattle.records.specs.declared.content.App.{App}
-use Rattle.records.specs.declared.content.Cohort.{Cohort}
+use Rattle.catalogue.specs.Lookups.{is_app}
+use Rattle.catalogue.specs.Validity.{IsValid, IsValidApp}
+use Rattle.catalogue.specs.declared.content.App.{App}
+use Rattle.catalogue.specs.declared.content.Cohort.{Cohort}
 use Rattle.replies.specs.Clients.{Client, client_at, client_of, key_of}
 use Rattle.replies.specs.Plans.{client_to_update, wants_update}
 use Rattle.interleavings.specs.Choices.{graph_for}

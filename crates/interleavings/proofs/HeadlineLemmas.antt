@@ -13,7 +13,7 @@ use Rattle.omaha_json.specs.declared.reply.KnownApp.{KnownApp}
 use Rattle.omaha_json.specs.declared.reply.Offer.{Offer}
 use Rattle.omaha_json.specs.declared.reply.Reply.{Reply}
 use Rattle.omaha_json.specs.declared.request.AppAsk.{AppAsk}
-use Rattle.records.specs.declared.mirror.Mirror.{Mirror}
+use Rattle.catalogue.specs.declared.mirror.Mirror.{Mirror}
 use Rattle.replies.specs.Clients.{Client}
 use Rattle.replies.specs.Plans.{IsChosen, payload_in}
 use Rattle.replies.specs.Replies.{IsOutcome, app_reply}

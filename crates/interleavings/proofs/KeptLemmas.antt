@@ -8,9 +8,9 @@ use Rattle.catalogue.specs.Batches.{run}
 use Rattle.catalogue.specs.declared.fault.Refused.{Refused}
 use Rattle.catalogue_laws.specs.Histories.{HistoriesAreValid, History, LeadsTo, PrefixesAreAccepted}
 use Rattle.editions.specs.Editions.{content_of, content_or_none}
-use Rattle.records.specs.Validity.{IsValid}
-use Rattle.records.specs.declared.content.App.{App}
-use Rattle.records.specs.declared.mirror.Mirror.{Mirror}
+use Rattle.catalogue.specs.Validity.{IsValid}
+use Rattle.catalogue.specs.declared.content.App.{App}
+use Rattle.catalogue.specs.declared.mirror.Mirror.{Mirror}
 use Rattle.replies.specs.Plans.{IsPlan}
 use Rattle.interleavings.specs.Jobs.{EndedJob, Job, Pending, Rendered, Worker, granted_for, jobs_of, outcomes_of}
 use Rattle.interleavings.specs.Laws.{EndsWell, IsAcceptedHistory, IsOfOneCatalogue, IsReplyOf}

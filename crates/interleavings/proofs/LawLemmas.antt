@@ -6,7 +6,7 @@ use Rattle.std.proofs.lemmas.List.Elements.{All-contains_itself, All-from_recurs
 use Rattle.std.proofs.lemmas.Option.{none-some}
 use Rattle.catalogue_laws.specs.Histories.{HistoriesAreValid, HistoriesGrow, History, PrefixesAreAccepted}
 use Rattle.quotes.specs.ByRows.{CertifiedRowsQuote}
-use Rattle.records.specs.declared.mirror.Mirror.{Mirror}
+use Rattle.catalogue.specs.declared.mirror.Mirror.{Mirror}
 use Rattle.theorems.specs.Laws.{TrackGraphsAreGraphs}
 use Rattle.interleavings.specs.Events.{Event, happens, service_after}
 use Rattle.interleavings.specs.Jobs.{EndedJob, Job, Worker, granted_for, jobs_of}

@@ -9,7 +9,7 @@ use Rattle.catalogue_laws.specs.Histories.{HistoriesAreValid, History, LeadsTo}
 use Rattle.mirror_ledger.specs.Asks.{booked}
 use Rattle.omaha_json.specs.declared.request.Request.{Request}
 use Rattle.quotes.specs.ByRows.{CertifiedRowsQuote}
-use Rattle.records.specs.declared.mirror.Mirror.{Mirror}
+use Rattle.catalogue.specs.declared.mirror.Mirror.{Mirror}
 use Rattle.theorems.specs.Laws.{TrackGraphsAreGraphs}
 use Rattle.interleavings.specs.Choices.{Tables, are_certified}
 use Rattle.interleavings.specs.Jobs.{EndedJob, Job, Pending, Rendered, Worker, granted_for, granted_to, is_decided}

@@ -19,7 +19,7 @@ use Rattle.mirror_ledger.specs.declared.raise_error.RaiseError.{RaiseError}
 use Rattle.mirror_ledger.specs.declared.raise_error.RaiseError.TheVariants as fault
 use Rattle.profile_toml.specs.Reading.{script_of_bytes}
 use Rattle.profile_toml.specs.declared.fault.ProfileFault.{ProfileFault}
-use Rattle.records.specs.declared.mirror.Mirror.{Mirror}
+use Rattle.catalogue.specs.declared.mirror.Mirror.{Mirror}
 use Rattle.editions.specs.Editions.{Continues}
 use Rattle.publisher.specs.declared.fault.PublishError.{PublishError}
 use Rattle.service_desks.specs.Following.{Follows, GivesWay, AdoptsLate, StopsEarly, StopsShort, Adopts, AdoptsAs, settled_state}

@@ -6,8 +6,8 @@ use Rattle.std.proofs.lemmas.Bool.{and_parts, cond_both, eqb-true, ltb-true}
 use Rattle.std.proofs.lemmas.List.Sums.{sum_by-cons, sum_by_push}
 use Rattle.mirror_ledger.specs.Asks.{Ask, booked, granted_at}
 use Rattle.omaha_json.specs.declared.request.Request.{Request}
-use Rattle.records.specs.declared.content.App.{App}
-use Rattle.records.specs.declared.mirror.Mirror.{Mirror}
+use Rattle.catalogue.specs.declared.content.App.{App}
+use Rattle.catalogue.specs.declared.mirror.Mirror.{Mirror}
 use Rattle.replies.specs.Replies.{AreOutcomes}
 use Rattle.replies.specs.declared.choices.Choice.{Choice}
 use Rattle.service_desks.specs.Asking.{asks_of}

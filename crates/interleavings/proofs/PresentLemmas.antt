@@ -5,7 +5,7 @@ use Rattle.std.proofs.lemmas.Bool.{cond_both, eq-eqb, leb-false, leb-true}
 use Rattle.mirror_ledger.specs.Budgets.{Account}
 use Rattle.mirror_ledger.specs.Named.{budget_at}
 use Rattle.mirror_ledger.specs.Raising.{raise_at}
-use Rattle.records.specs.declared.mirror.Mirror.{Mirror}
+use Rattle.catalogue.specs.declared.mirror.Mirror.{Mirror}
 use Rattle.interleavings.specs.Events.{Drop, Enter, Event, Grant, Learn, Plan, Publish, Raise, Reject, Render, asks, decided, granted, happens, rejected, run}
 use Rattle.interleavings.specs.Laws.{BudgetsAreThoseOfRaises, mirrors_after, mirrors_by}
 use Rattle.interleavings.specs.Services.{Service, has_room, opened, opened_book, present, with_budget, with_budgets_of}

@@ -10,14 +10,14 @@ use Rattle.mirror_ledger.specs.Asks.{Ask}
 use Rattle.mirror_ledger.specs.Named.{budget_at}
 use Rattle.mirror_ledger.specs.Tills.{HadNoRoom, granted_by}
 use Rattle.publisher.specs.Sights.{Allows, fresh}
-use Rattle.records.specs.Forms.{hash_of}
-use Rattle.records.specs.Lookups.{declared_of}
+use Rattle.catalogue.specs.Forms.{hash_of}
+use Rattle.catalogue.specs.Lookups.{declared_of}
 use Rattle.service_desks.specs.Served.{IsServed, IsWorked}
 use Rattle.service_desks.specs.States.{State, Store}
 use Rattle.service_desks.specs.Workers.{Progress}
 use Rattle.interleavings.specs.Runs.{small_batch, small_mirrors}
 use Rattle.interleavings.specs.ServedRuns.{LookedUp, idle_proceedings, left_unpublished, made_up}
-use Rattle.records.specs.Versions as version
+use Rattle.catalogue.specs.Versions as version
 use Rattle.interleavings.proofs.WrongLemmas.{apart}
 
 -- the small history is accepted

@@ -10,7 +10,7 @@ use Rattle.kept_records.specs.declared.record.Kind.{Kind}
 use Rattle.kept_records.specs.declared.record.Kind.TheVariants as kind
 use Rattle.mirror_ledger.specs.Named.{budget_at}
 use Rattle.mirror_ledger.specs.Raising.{raise_at}
-use Rattle.records.specs.declared.mirror.Mirror.{Mirror}
+use Rattle.catalogue.specs.declared.mirror.Mirror.{Mirror}
 use Rattle.service_desks.specs.Following.{Follows, GivesWay, StopsEarly, StopsShort, AdoptsAs, settled_state}
 use Rattle.service_desks.specs.Operators.{IsCall}
 use Rattle.service_desks.specs.States.{State}

@@ -3,7 +3,7 @@ use Rattle.std.proofs.Common.{◌≡◌, ℕ, zero, suc, ◌+◌, ◌≤◌, Lis
 use Rattle.std.specs.List.{AllByRecursion}
 use Rattle.mirror_ledger.specs.Asks.{Ask}
 use Rattle.mirror_ledger.specs.Tills.{AreFull}
-use Rattle.records.specs.declared.mirror.Mirror.{Mirror}
+use Rattle.catalogue.specs.declared.mirror.Mirror.{Mirror}
 use Rattle.interleavings.specs.Calls.{Break, Look, Nothing, Reply, Work, ask_events, asks_events, asks_in, events_of, rejections}
 use Rattle.interleavings.specs.Events.{Drop, Grant, Render}
 use Rattle.interleavings.specs.Served.{IsOfFull}

@@ -6,7 +6,7 @@ use Rattle.std.proofs.lemmas.Bool.{cond_both}
 use Rattle.std.proofs.lemmas.List.{append-nil}
 use Rattle.std.proofs.lemmas.Option.{IfSome_then, none-some, same_Some}
 use Rattle.mirror_ledger.specs.Asks.{booked}
-use Rattle.records.specs.declared.mirror.Mirror.{Mirror}
+use Rattle.catalogue.specs.declared.mirror.Mirror.{Mirror}
 use Rattle.interleavings.specs.Entries.{Course, JobsGoByWhatIsPublished}
 use Rattle.interleavings.specs.Events.{Drop, Enter, Event, Grant, Learn, Plan, Publish, Raise, Reject, Render, asks, decided, granted, happens, moved, rejected, service_after}
 use Rattle.interleavings.specs.Jobs.{Pending, Worker, new_worker}

@@ -10,8 +10,8 @@ use Rattle.omaha_json.specs.declared.request.Request.{Request}
 use Rattle.payload_graph.specs.Net.{Net}
 use Rattle.price_cert.specs.declared.row.Row.{Row}
 use Rattle.quotes.specs.ByRows.{CertifiedRowsQuote}
-use Rattle.records.specs.Validity.{IsValid}
-use Rattle.records.specs.declared.content.App.{App}
+use Rattle.catalogue.specs.Validity.{IsValid}
+use Rattle.catalogue.specs.declared.content.App.{App}
 use Rattle.replies.specs.Clients.{Client, key_of}
 use Rattle.replies.specs.Plans.{IsPlan, client_to_update}
 use Rattle.replies.specs.declared.choices.Choice.{Choice}

@@ -7,7 +7,7 @@ use Rattle.std.proofs.lemmas.List.Sums.{sum_by-cons}
 use Rattle.catalogue.specs.declared.edit.Edit.{Edit}
 use Rattle.catalogue_laws.specs.Histories.{HistoriesAreValid, HistoriesGrow, History, PrefixesAreAccepted}
 use Rattle.quotes.specs.ByRows.{CertifiedRowsQuote}
-use Rattle.records.specs.declared.mirror.Mirror.{Mirror}
+use Rattle.catalogue.specs.declared.mirror.Mirror.{Mirror}
 use Rattle.theorems.specs.Laws.{TrackGraphsAreGraphs}
 use Rattle.interleavings.specs.Events.{Event, Machine, happens, run, service_after}
 use Rattle.interleavings.specs.Jobs.{Worker, new_worker}

@@ -6,7 +6,7 @@ use Rattle.std.proofs.lemmas.List.Elements.{All-from_recursion, recursion_from_A
 use Rattle.catalogue_laws.specs.Histories.{History}
 use Rattle.http_desks.specs.Calls.{Call}
 use Rattle.omaha_json.specs.ReplyWriting.{reply_bytes}
-use Rattle.records.specs.declared.mirror.Mirror.{Mirror}
+use Rattle.catalogue.specs.declared.mirror.Mirror.{Mirror}
 use Rattle.interleavings.specs.Calls.{Sent, sent_by, sent_for, sent_in}
 use Rattle.interleavings.specs.Events.{happens, service_after}
 use Rattle.interleavings.specs.Jobs.{EndedJob, Pending, Rendered, Worker, outcomes_of}

@@ -12,7 +12,7 @@ use Rattle.mirror_ledger.specs.Budgets.{Account}
 use Rattle.mirror_ledger.specs.Named.{budget_at}
 use Rattle.mirror_ledger.specs.Tills.{AreFull, granted_by}
 use Rattle.publisher.specs.Sights.{fresh}
-use Rattle.records.specs.declared.mirror.Mirror.{Mirror}
+use Rattle.catalogue.specs.declared.mirror.Mirror.{Mirror}
 use Rattle.service_desks.specs.Operators.{IsCall as IsOperatorCall}
 use Rattle.service_desks.specs.Served.{IsServed, IsWorked, Proceedings}
 use Rattle.service_desks.specs.States.{State, Store}

@@ -11,7 +11,7 @@ use Rattle.mirror_ledger.specs.Asks.{Ask, booked, granted_at}
 use Rattle.mirror_ledger.specs.Budgets.{Account}
 use Rattle.mirror_ledger.specs.Order.{HasRoomAt, IsFirstWithRoom}
 use Rattle.omaha_json.specs.declared.request.Request.{Request}
-use Rattle.records.specs.declared.mirror.Mirror.{Mirror}
+use Rattle.catalogue.specs.declared.mirror.Mirror.{Mirror}
 use Rattle.replies.specs.declared.choices.Choice.{Choice}
 use Rattle.service_desks.specs.Asking.{AreGranted}
 use Rattle.interleavings.specs.Calls.{AreForRoom, IsOfOneWorker, ask_events, asks_events, rejections}

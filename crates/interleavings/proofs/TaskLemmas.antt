@@ -12,7 +12,7 @@ use Rattle.mirror_ledger.specs.Asks.{Ask, granted_at}
 use Rattle.mirror_ledger.specs.Tills.{AreFull}
 use Rattle.publisher.specs.Beginnings.{StartsWith}
 use Rattle.publisher.specs.Sights.{Allows}
-use Rattle.records.specs.declared.mirror.Mirror.{Mirror}
+use Rattle.catalogue.specs.declared.mirror.Mirror.{Mirror}
 use Rattle.service_desks.specs.Workers.{IsCall, Progress}
 use Rattle.interleavings.specs.Calls.{IsBetween, Sent, sent_by, sent_in}
 use Rattle.interleavings.specs.Events.{Event, happens, run}

@@ -10,8 +10,8 @@ use Rattle.editions.specs.Editions.{max_batches, outcome_after}
 use Rattle.mirror_ledger.specs.Budgets.{Account}
 use Rattle.omaha_json.specs.ReplyWriting.{reply_bytes}
 use Rattle.publisher.specs.declared.fault.PublishError.TheVariants as publishing
-use Rattle.records.specs.declared.content.App.{App}
-use Rattle.records.specs.declared.mirror.Mirror.{Mirror}
+use Rattle.catalogue.specs.declared.content.App.{App}
+use Rattle.catalogue.specs.declared.mirror.Mirror.{Mirror}
 use Rattle.replies.specs.Plans.{payloads_of}
 use Rattle.replies.specs.Replies.{AreOutcomes, reply_of}
 use Rattle.replies.specs.declared.choices.Choice.{Choice}

@@ -5,7 +5,7 @@ use Rattle.std.specs.Option.{IfSome, is_none, option_map, option_map_or}
 use Rattle.std.proofs.lemmas.Bool.{and_parts, cond_both}
 use Rattle.catalogue_laws.specs.Histories.{History}
 use Rattle.omaha_json.specs.declared.request.Request.{Request}
-use Rattle.records.specs.declared.mirror.Mirror.{Mirror}
+use Rattle.catalogue.specs.declared.mirror.Mirror.{Mirror}
 use Rattle.interleavings.specs.Choices.{Tables, are_certified}
 use Rattle.interleavings.specs.Entries.{Course, GoesByPublished, Turns, entered_job}
 use Rattle.interleavings.specs.Events.{Enter, Event, Plan, Render}

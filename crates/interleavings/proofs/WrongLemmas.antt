@@ -16,12 +16,12 @@ use Rattle.omaha_json.specs.declared.reply.AppReply.{AppReply}
 use Rattle.omaha_json.specs.declared.reply.Offer.{Offer}
 use Rattle.omaha_json.specs.declared.reply.Reply.{Reply}
 use Rattle.payload_graph.specs.declared.payload.Payload.TheVariants.{Full}
-use Rattle.records.specs.Forms.{hash_of}
-use Rattle.records.specs.declared.content.App.{App}
-use Rattle.records.specs.declared.mirror.Mirror.{Mirror}
+use Rattle.catalogue.specs.Forms.{hash_of}
+use Rattle.catalogue.specs.declared.content.App.{App}
+use Rattle.catalogue.specs.declared.mirror.Mirror.{Mirror}
 use Rattle.replies.specs.Plans.{IsPlan}
 use Rattle.theorems.specs.Asks.{offer_in}
-use Rattle.records.specs.Versions as version
+use Rattle.catalogue.specs.Versions as version
 use Rattle.interleavings.specs.Events.{Drop, Enter, Grant, Learn, Plan, Publish, Raise, Reject, Render}
 use Rattle.interleavings.specs.Jobs.{EndedJob, Job, Pending, Rendered, Worker, is_decided, new_worker}
 use Rattle.interleavings.proofs.EventLemmas.{Made}

@@ -1,6 +1,6 @@
 -- Wrong machines whose replies don't say what is true, or whose offers lead nowhere, each in a run of the small service.
 use Rattle.std.proofs.Common.{◌≡◌, ℕ, zero, suc, ◌<◌, inl, inr, List, [], ◌∷◌, length, Option, None, Some, refl, sym, ap, ◌∙◌, subst, arith}
-use Rattle.records.specs.declared.mirror.Mirror.{Mirror}
+use Rattle.catalogue.specs.declared.mirror.Mirror.{Mirror}
 use Rattle.std.specs.List.{AllZip, zip}
 use Rattle.std.specs.Option.{IfSome, option_map_or}
 use Rattle.hex.proofs.OnLiterals.{hex_on_literals}
@@ -9,13 +9,13 @@ use Rattle.cohorts.specs.CohortTexts.{parsed}
 use Rattle.omaha_json.specs.declared.reply.AppReply.{AppReply}
 use Rattle.omaha_json.specs.declared.reply.Offer.{Offer}
 use Rattle.payload_graph.specs.declared.payload.Payload.TheVariants.{Full}
-use Rattle.records.specs.Forms.{hash_of}
-use Rattle.records.specs.declared.content.Diff.{Diff}
-use Rattle.records.specs.declared.content.Release.{Release}
+use Rattle.catalogue.specs.Forms.{hash_of}
+use Rattle.catalogue.specs.declared.content.Diff.{Diff}
+use Rattle.catalogue.specs.declared.content.Release.{Release}
 use Rattle.replies.specs.Replies.{check_reply}
 use Rattle.replies.specs.declared.choices.Choice.{Choice}
 use Rattle.theorems.specs.Asks.{IsGranted, offer_by, offer_in}
-use Rattle.records.specs.Versions as version
+use Rattle.catalogue.specs.Versions as version
 use Rattle.interleavings.specs.Events.{Event, Grant, Render}
 use Rattle.interleavings.specs.Headline.{OfferLeads, OffersLead, OffersLeadToTargets, RepliesSayTrue, SayTrue, SaysTrue}
 use Rattle.interleavings.specs.Jobs.{Job, Pending, Rendered, new_worker, outcomes_of}

@@ -5,8 +5,8 @@ use Rattle.std.proofs.lemmas.Bool.{false≢true}
 use Rattle.hex.proofs.OnLiterals.{hex_on_literals}
 use Rattle.cohorts.specs.CohortTexts.{parsed}
 use Rattle.omaha_json.specs.declared.request.Request.{Request}
-use Rattle.records.specs.Forms.{hash_of}
-use Rattle.records.specs.Versions as version
+use Rattle.catalogue.specs.Forms.{hash_of}
+use Rattle.catalogue.specs.Versions as version
 use Rattle.interleavings.specs.Choices.{Tables}
 use Rattle.interleavings.specs.Entries.{JobsGoByWhatIsPublished, Jobs, jobs_at}
 use Rattle.interleavings.specs.Events.{Enter, Event, Grant, Machine, Plan, Publish, Render, service_after}

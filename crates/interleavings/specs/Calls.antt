@@ -14,7 +14,7 @@ use Rattle.omaha_json.specs.ReplyWriting.{reply_bytes}
 use Rattle.omaha_json.specs.RequestReading.{request_of_bytes}
 use Rattle.omaha_json.specs.declared.fault.RequestFault.{RequestFault}
 use Rattle.omaha_json.specs.declared.request.Request.{Request}
-use Rattle.records.specs.declared.mirror.Mirror.{Mirror}
+use Rattle.catalogue.specs.declared.mirror.Mirror.{Mirror}
 use Rattle.service_desks.specs.Asking.{GrantsFirst}
 use Rattle.service_desks.specs.Entries.{Enters}
 use Rattle.service_desks.specs.Workers.{IsCall, Progress}

@@ -12,7 +12,7 @@ use Rattle.price_cert.specs.declared.row.Row.{Row}
 use Rattle.quotes.specs.ByRows.{quote_by_rows}
 use Rattle.quotes.specs.declared.quote.Quote.{Quote}
 use Rattle.quotes.specs.declared.quote.Quote.TheVariants.{Here, Next, NoChain}
-use Rattle.records.specs.declared.content.App.{App}
+use Rattle.catalogue.specs.declared.content.App.{App}
 use Rattle.replies.specs.Clients.{Client, key_of}
 use Rattle.replies.specs.Plans.{client_to_update}
 use Rattle.replies.specs.declared.choices.Choice.{Choice}

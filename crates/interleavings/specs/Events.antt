@@ -5,7 +5,7 @@ use Rattle.catalogue_laws.specs.Histories.{History}
 use Rattle.std.specs.Option.{option_map_or}
 use Rattle.catalogue.specs.declared.edit.Edit.{Edit}
 use Rattle.omaha_json.specs.declared.request.Request.{Request}
-use Rattle.records.specs.declared.mirror.Mirror.{Mirror}
+use Rattle.catalogue.specs.declared.mirror.Mirror.{Mirror}
 use Rattle.interleavings.specs.Choices.{Tables}
 use Rattle.interleavings.specs.Jobs.{Worker}
 use Rattle.interleavings.specs.Moves.{after_drop, after_entry, after_grant, after_news, after_plan, after_rejection, after_rendering, is_asking, with_pending}

@@ -7,8 +7,8 @@ use Rattle.omaha_json.specs.declared.reply.Offer.{Offer}
 use Rattle.omaha_json.specs.declared.request.AppAsk.{AppAsk}
 use Rattle.payload_graph.specs.Chains.{IsAtTarget}
 use Rattle.quotes.specs.Sums.{IsLeast}
-use Rattle.records.specs.declared.content.App.{App}
-use Rattle.records.specs.declared.mirror.Mirror.{Mirror}
+use Rattle.catalogue.specs.declared.content.App.{App}
+use Rattle.catalogue.specs.declared.mirror.Mirror.{Mirror}
 use Rattle.replies.specs.Clients.{Client, key_of}
 use Rattle.theorems.specs.Asks.{IsAskOf, check_in, offer_in, place_at}
 use Rattle.theorems.specs.Statuses.{Says}

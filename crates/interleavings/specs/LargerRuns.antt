@@ -9,7 +9,7 @@ use Rattle.omaha_json.specs.declared.request.AppAsk.{AppAsk}
 use Rattle.omaha_json.specs.declared.request.Request.{Request}
 use Rattle.payload_graph.specs.declared.edge.Kind.TheVariants as kind
 use Rattle.price_cert.specs.declared.row.Row.TheVariants.{End, Nothing, Price}
-use Rattle.records.specs.declared.mirror.Mirror.{Mirror}
+use Rattle.catalogue.specs.declared.mirror.Mirror.{Mirror}
 use Rattle.theorems.specs.Asks.{offered_bytes}
 use Rattle.theorems.specs.Walks.{offers_of}
 use Rattle.interleavings.specs.Choices.{Tables}

@@ -11,8 +11,8 @@ use Rattle.omaha_json.specs.declared.reply.Reply.{Reply}
 use Rattle.omaha_json.specs.declared.request.Request.{Request}
 use Rattle.par_tables.specs.Tables.{AreTables}
 use Rattle.price_cert.specs.Tables.{Certificate}
-use Rattle.records.specs.declared.content.App.{App}
-use Rattle.records.specs.declared.mirror.Mirror.{Mirror}
+use Rattle.catalogue.specs.declared.content.App.{App}
+use Rattle.catalogue.specs.declared.mirror.Mirror.{Mirror}
 use Rattle.replies.specs.Plans.{IsPlan, IsPlanOf, payloads_of}
 use Rattle.replies.specs.Replies.{AreOutcomes, reply_of}
 use Rattle.replies.specs.declared.choices.Choice.{Choice}

@@ -5,8 +5,8 @@ use Rattle.catalogue_laws.specs.Histories.{History}
 use Rattle.mirror_ledger.specs.Asks.{booked}
 use Rattle.omaha_json.specs.declared.reply.Reply.{Reply}
 use Rattle.omaha_json.specs.declared.request.Request.{Request}
-use Rattle.records.specs.declared.content.App.{App}
-use Rattle.records.specs.declared.mirror.Mirror.{Mirror}
+use Rattle.catalogue.specs.declared.content.App.{App}
+use Rattle.catalogue.specs.declared.mirror.Mirror.{Mirror}
 use Rattle.replies.specs.Plans.{payloads_of}
 use Rattle.replies.specs.Replies.{reply_of}
 use Rattle.interleavings.specs.Choices.{Tables, are_certified, choices_of}

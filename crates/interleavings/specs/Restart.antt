@@ -9,7 +9,7 @@ use Rattle.mirror_ledger.specs.Asks.{Ask}
 use Rattle.omaha_json.specs.declared.request.Request.{Request}
 use Rattle.services.specs.Services.{service_of}
 use Rattle.profile_toml.specs.Reading.{profile_of_bytes}
-use Rattle.records.specs.declared.mirror.Mirror.{Mirror}
+use Rattle.catalogue.specs.declared.mirror.Mirror.{Mirror}
 use Rattle.service_desks.specs.Operators.{IsCall, IsDump}
 use Rattle.service_desks.specs.States.{State, Store}
 use Rattle.service_desks.specs.Workers.{stock_of}

@@ -8,7 +8,7 @@ use Rattle.omaha_json.specs.declared.reply.CheckReply.{CheckReply}
 use Rattle.omaha_json.specs.declared.reply.CheckReply.TheVariants as check
 use Rattle.omaha_json.specs.declared.request.Request.{Request}
 use Rattle.price_cert.specs.declared.row.Row.TheVariants.{End, Nothing}
-use Rattle.records.specs.declared.mirror.Mirror.{Mirror}
+use Rattle.catalogue.specs.declared.mirror.Mirror.{Mirror}
 use Rattle.theorems.specs.Asks.{check_in}
 use Rattle.interleavings.specs.Choices.{Tables}
 use Rattle.interleavings.specs.Events.{Drop, Enter, Event, Grant, Learn, Plan, Publish, Raise, Reject, Render, happens, service_after}

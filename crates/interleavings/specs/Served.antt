@@ -5,7 +5,7 @@ use Rattle.http_desks.specs.Calls.{Call}
 use Rattle.mirror_ledger.specs.Tills.{AreFull}
 use Rattle.omaha_json.specs.ReplyWriting.{reply_bytes}
 use Rattle.omaha_json.specs.declared.reply.Reply.{Reply}
-use Rattle.records.specs.declared.mirror.Mirror.{Mirror}
+use Rattle.catalogue.specs.declared.mirror.Mirror.{Mirror}
 use Rattle.replies.specs.declared.choices.Choice.{Choice}
 use Rattle.service_desks.specs.Served.{IsServed, Proceedings}
 use Rattle.service_desks.specs.States.{State, Store}

@@ -6,8 +6,8 @@ use Rattle.editions.specs.Editions.{content_of, max_batches, outcome_after}
 use Rattle.mirror_ledger.specs.Asks.{booked}
 use Rattle.mirror_ledger.specs.Budgets.{Account}
 use Rattle.mirror_ledger.specs.Named.{budget_at}
-use Rattle.records.specs.declared.content.App.{App}
-use Rattle.records.specs.declared.mirror.Mirror.{Mirror}
+use Rattle.catalogue.specs.declared.content.App.{App}
+use Rattle.catalogue.specs.declared.mirror.Mirror.{Mirror}
 use Rattle.interleavings.specs.Jobs.{Worker, new_worker}
 
 -- rule: Service

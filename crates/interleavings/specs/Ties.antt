@@ -21,7 +21,7 @@ use Rattle.profile_toml.specs.Reading.{script_of_bytes}
 use Rattle.publisher.specs.Publishing.{Publishes}
 use Rattle.publisher.specs.declared.fault.PublishError.{PublishError}
 use Rattle.publisher.specs.declared.fault.PublishError.TheVariants as publishing
-use Rattle.records.specs.declared.mirror.Mirror.{Mirror}
+use Rattle.catalogue.specs.declared.mirror.Mirror.{Mirror}
 use Rattle.service_desks.specs.Lines.{IsUnkept}
 use Rattle.service_desks.specs.Operators.{IsCall}
 use Rattle.service_desks.specs.Scripts.{Performs}

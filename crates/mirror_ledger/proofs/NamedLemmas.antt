@@ -1,8 +1,8 @@
 -- What the names of ledgers carry, by the mirrors that are handed in.
 use Rattle.std.proofs.Common.{◌≡◌, ℕ, zero, suc, ◌≤◌, Bool, true, false, List, [], ◌∷◌, arith, refl}
 use Rattle.std.proofs.lemmas.Bool.{false≢true, leb-true}
-use Rattle.records.specs.Mirrors.{max_budget}
-use Rattle.records.specs.declared.mirror.Mirror.{Mirror}
+use Rattle.catalogue.specs.Mirrors.{max_budget}
+use Rattle.catalogue.specs.declared.mirror.Mirror.{Mirror}
 use Rattle.mirror_ledger.specs.Named.{AreFixed, AreTops, are_bounded, budget_at, max_at}
 use Rattle.mirror_ledger.proofs.PairLemmas.{both-true}
 

@@ -1,7 +1,7 @@
 -- Which asks were granted, and so which ones weren't.
 use Rattle.std.proofs.Common.{◌≡◌, ◌∙◌, ℕ, ◌+◌, ◌<◌, ◌≤◌, All, List, ap, arith, below_more, get_or, length, map, subst, sym}
 use Rattle.std.proofs.lemmas.List.{get_or-map}
-use Rattle.records.specs.declared.mirror.Mirror.{Mirror}
+use Rattle.catalogue.specs.declared.mirror.Mirror.{Mirror}
 use Rattle.mirror_ledger.specs.Asks.{AreGrantedBelow, Ask}
 use Rattle.mirror_ledger.specs.Tills.{AreFull, HadNoRoom}
 

@@ -4,7 +4,7 @@ use Rattle.std.specs.Result.{OnErr}
 use Rattle.std.proofs.lemmas.List.{length-map, map-append}
 use Rattle.std.proofs.lemmas.List.Elements.{All-weaker}
 use Rattle.std.proofs.lemmas.List.Sums.{sum_by_push}
-use Rattle.records.specs.declared.mirror.Mirror.{Mirror}
+use Rattle.catalogue.specs.declared.mirror.Mirror.{Mirror}
 use Rattle.mirror_ledger.specs.Asks.{AreTallied, AreUnused, Ask, granted_at}
 use Rattle.mirror_ledger.specs.Named.{AreFixed, budget_at, totals_of}
 use Rattle.mirror_ledger.specs.Order.{IsAlone}

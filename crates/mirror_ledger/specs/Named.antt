@@ -3,8 +3,8 @@
 use Rattle.std.specs.Prelude.{◌≡◌, ◌&&◌, ℕ, ◌<◌, ◌≤◌, Bool, true, not, if◌then◌else◌, List, [], ◌∷◌, length, map, nat_le, slice_index, take}
 use Rattle.std.specs.List.{list_all}
 use Rattle.std.specs.declared.sync.ledger.Blank.{Blank}
-use Rattle.records.specs.Mirrors.{max_budget}
-use Rattle.records.specs.declared.mirror.Mirror.{Mirror}
+use Rattle.catalogue.specs.Mirrors.{max_budget}
+use Rattle.catalogue.specs.declared.mirror.Mirror.{Mirror}
 
 -- the budget of the mirror at an index, 0 if there is none
 abbrev pub budget_at : List Mirror → ℕ → ℕ

@@ -1,6 +1,6 @@
 -- Which mirror grants an ask of a worker that is alone, if no budget is raised; this project's profile.
 use Rattle.std.specs.Prelude.{◌≡◌, ℕ, ◌+◌, ◌<◌, ◌≤◌, List, length, Option, None, Some}
-use Rattle.records.specs.declared.mirror.Mirror.{Mirror}
+use Rattle.catalogue.specs.declared.mirror.Mirror.{Mirror}
 use Rattle.mirror_ledger.specs.Asks.{Ask, granted_at}
 use Rattle.mirror_ledger.specs.Named.{AreFixed, budget_at}
 

@@ -2,8 +2,8 @@
 use Rattle.std.specs.Prelude.{◌≡◌, ℕ, zero, suc, ◌<◌, ◌≤◌, Bool, true, IsSome, List, [], ◌∷◌, length, Option, None, Some, Result, Ok, Err}
 use Rattle.std.specs.List.{list_all, position}
 use Rattle.std.specs.Str.{bytes_eq}
-use Rattle.records.specs.Mirrors.{is_mirror, max_budget}
-use Rattle.records.specs.declared.mirror.Mirror.{Mirror}
+use Rattle.catalogue.specs.Mirrors.{is_mirror, max_budget}
+use Rattle.catalogue.specs.declared.mirror.Mirror.{Mirror}
 use Rattle.values.specs.Lists.{IsOnce}
 use Rattle.mirror_ledger.specs.Named.{budget_at}
 use Rattle.mirror_ledger.specs.declared.raise_error.RaiseError.{RaiseError}

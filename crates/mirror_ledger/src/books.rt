@@ -6,7 +6,7 @@ ghost use Rattle.mirror_ledger.specs.Order.{HasRoomAt, IsAlone, IsFirstWithRoom}
 
 use crate::asks::AskList;
 use crate::book::{Book, BudgetName, Share};
-use records::Mirror;
+use catalogue::Mirror;
 use std::marker::Model;
 use std::sync::{Mutex, Wait};
 
@@ -29,7 +29,7 @@ pub struct Books<A: BudgetName, B: BudgetName, C: BudgetName, D: BudgetName> {
 
 impl<A: BudgetName, B: BudgetName, C: BudgetName, D: BudgetName> Model for Books<A, B, C, D> {
     ghost use Rattle.std.specs.Prelude.{List};
-    ghost use Rattle.records.specs.declared.mirror.Mirror.{Mirror};
+    ghost use Rattle.catalogue.specs.declared.mirror.Mirror.{Mirror};
     ghost use Rattle.mirror_ledger.specs.Named.{AreGiven};
 
     ghost Value = { List Mirror };

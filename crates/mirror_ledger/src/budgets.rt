@@ -1,7 +1,7 @@
 //! The budgets of mirrors, as they are and raised.
 
 ghost use Rattle.std.specs.Prelude.{◌≡◌, ◌≤◌, Bool, IfOk, List, true};
-ghost use Rattle.records.specs.declared.mirror.Mirror.{Mirror};
+ghost use Rattle.catalogue.specs.declared.mirror.Mirror.{Mirror};
 ghost use Rattle.mirror_ledger.specs.Named.{are_rising, budget_at};
 ghost use Rattle.mirror_ledger.specs.Raising.{RaisesTo, index_of};
 
@@ -9,7 +9,7 @@ use crate::book::{BudgetName, Lower};
 use crate::books::Books;
 use crate::raise_error::RaiseError;
 use crate::raisers::{Raisers, copied};
-use records::Mirror;
+use catalogue::Mirror;
 use std::alloc::{AllocError, Global};
 use std::sync::Wait;
 

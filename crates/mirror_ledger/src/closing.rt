@@ -8,7 +8,7 @@ use crate::book::{BudgetName, Share};
 use crate::books::{Books, Shares};
 use crate::raisers::Raisers;
 use crate::till::Hand;
-use records::Mirror;
+use catalogue::Mirror;
 use std::alloc::{AllocError, Global};
 use std::sync::{Wait, ledger};
 

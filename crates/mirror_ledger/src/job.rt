@@ -1,7 +1,7 @@
 //! Jobs with a till each.
 
 ghost use Rattle.std.specs.Prelude.{◌≡◌, [], Bool, List, true};
-ghost use Rattle.records.specs.declared.mirror.Mirror.{Mirror};
+ghost use Rattle.catalogue.specs.declared.mirror.Mirror.{Mirror};
 ghost use Rattle.mirror_ledger.specs.Asks.{Ask};
 ghost use Rattle.mirror_ledger.specs.Raising.{AreNamed};
 

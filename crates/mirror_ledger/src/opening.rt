@@ -8,7 +8,7 @@ use crate::asks::AskList;
 use crate::book::{Book, BudgetName, Share};
 use crate::books::{Books, Shares};
 use crate::raisers::{Raisers, copied};
-use records::Mirror;
+use catalogue::Mirror;
 use std::alloc::{AllocError, Global};
 use std::sync::ledger::Blank;
 use std::sync::{Mutex, Wait, ledger};

@@ -6,7 +6,7 @@ ghost use Rattle.mirror_ledger.specs.Raising.{raise_at};
 
 use crate::book::{Book, BudgetName, Lower, Raiser};
 use crate::books::Books;
-use records::Mirror;
+use catalogue::Mirror;
 use std::alloc::{AllocError, Global};
 use std::marker::Model;
 use std::sync::{Mutex, Wait};
@@ -25,7 +25,7 @@ pub struct Raisers<A: BudgetName, B: BudgetName, C: BudgetName, D: BudgetName> {
 
 impl<A: BudgetName, B: BudgetName, C: BudgetName, D: BudgetName> Model for Raisers<A, B, C, D> {
     ghost use Rattle.std.specs.Prelude.{List};
-    ghost use Rattle.records.specs.declared.mirror.Mirror.{Mirror};
+    ghost use Rattle.catalogue.specs.declared.mirror.Mirror.{Mirror};
     ghost use Rattle.mirror_ledger.specs.Named.{AreGiven};
 
     ghost Value = { List Mirror };

@@ -6,7 +6,7 @@ ghost use Rattle.mirror_ledger.specs.Tills.{AreFull};
 
 use crate::book::BudgetName;
 use crate::till::Hand;
-use records::Mirror;
+use catalogue::Mirror;
 
 /// The least bytes that were rejected, by the tills of all workers: each ask for fewer was granted.
 pub(crate) fn all_granted_below<A: BudgetName, B: BudgetName, C: BudgetName, D: BudgetName>(

@@ -2,7 +2,7 @@
 
 ghost use Rattle.std.specs.Prelude.{◌≡◌, ◌&&◌, ◌<◌, ◌≤◌, Bool, List, All, IfErr, IfOk, None, Some, length, map, nat_eq, not, true, vec_len};
 ghost use Rattle.std.specs.List.{AllZip};
-ghost use Rattle.records.specs.declared.mirror.Mirror.{Mirror};
+ghost use Rattle.catalogue.specs.declared.mirror.Mirror.{Mirror};
 ghost use Rattle.worker_threads.specs.Jobs.{EndsAs};
 ghost use Rattle.mirror_ledger.specs.Asks.{Ask};
 ghost use Rattle.mirror_ledger.specs.Named.{AreTops, IsNamed, are_bounded};
@@ -20,7 +20,7 @@ use crate::rejected::{all_granted_below, are_full};
 use crate::run_error::RunError;
 use crate::till::Till;
 use crate::working::tills_of;
-use records::Mirror;
+use catalogue::Mirror;
 use std::alloc::{AllocError, Global};
 use std::marker::Brand;
 use std::sync::Wait;

@@ -1,13 +1,13 @@
 //! The till of a worker.
 
 ghost use Rattle.std.specs.Prelude.{◌≡◌, ℕ, ◌+◌, ◌++◌, ◌∷◌, [], ◌<◌, List, length, IfSome};
-ghost use Rattle.records.specs.declared.mirror.Mirror.{Mirror};
+ghost use Rattle.catalogue.specs.declared.mirror.Mirror.{Mirror};
 ghost use Rattle.mirror_ledger.specs.Asks.{AreTallied, Ask, booked};
 ghost use Rattle.mirror_ledger.specs.Order.{IsAlone, IsFirstWithRoom};
 
 use crate::book::BudgetName;
 use crate::books::{Books, Shares};
-use records::Mirror;
+use catalogue::Mirror;
 use std::sync::Wait;
 
 /// What grants the bytes of update checks on mirrors.

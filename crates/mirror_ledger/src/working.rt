@@ -1,7 +1,7 @@
 //! Work by tills, over books that are opened for it and closed after it.
 
 ghost use Rattle.std.specs.Prelude.{◌≡◌, ◌⊎◌, ◌<◌, ◌≤◌, Bool, List, All, IfOk, OnErr, length, map, not, true, vec_len};
-ghost use Rattle.records.specs.declared.mirror.Mirror.{Mirror};
+ghost use Rattle.catalogue.specs.declared.mirror.Mirror.{Mirror};
 ghost use Rattle.mirror_ledger.specs.Asks.{AreUnused, Ask};
 ghost use Rattle.mirror_ledger.specs.Named.{AreFixed, AreTops, IsNamed, are_bounded};
 ghost use Rattle.mirror_ledger.specs.Order.{IsAlone};
@@ -12,7 +12,7 @@ use crate::books::{Books, Shares};
 use crate::closing::{close_parts, gather_tills};
 use crate::opening::{Blanks, Opened, open_books};
 use crate::till::{Hand, Till};
-use records::Mirror;
+use catalogue::Mirror;
 use std::alloc::{AllocError, Global};
 use std::marker::Brand;
 use std::sync::Wait;

@@ -9,7 +9,7 @@ use Rattle.package_files.specs.Findings.{AreFindings}
 use Rattle.package_files.specs.declared.finding.Finding.{Finding}
 use Rattle.package_files.specs.FindingLines.{findings_string}
 use Rattle.package_files.specs.Storages.{Storage}
-use Rattle.records.specs.Lookups.{packages_of}
+use Rattle.catalogue.specs.Lookups.{packages_of}
 use Rattle.reports.specs.Summaries.{summary_of}
 use Rattle.omaha_arguments.specs.declared.command.Comparison.{Comparison}
 use Rattle.omaha_commands.specs.Profiles.{Files, IsServed}

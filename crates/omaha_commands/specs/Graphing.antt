@@ -1,8 +1,8 @@
 -- What the command `graph` prints; this project's profile.
 use Rattle.std.specs.Prelude.{◌≡◌, ◌⊎◌, ℕ, Bool, if◌then◌else◌, List, Option, None, Some, option_and_then, option_map, position, slice_get, Result, Ok, Err}
-use Rattle.records.specs.Versions.{version_of}
-use Rattle.records.specs.Lookups.{cohorts_at, is_app, is_cohort, is_release, releases_at}
-use Rattle.records.specs.declared.content.App.{App}
+use Rattle.catalogue.specs.Versions.{version_of}
+use Rattle.catalogue.specs.Lookups.{cohorts_at, is_app, is_cohort, is_release, releases_at}
+use Rattle.catalogue.specs.declared.content.App.{App}
 use Rattle.editions.specs.Editions.{content_of}
 use Rattle.price_certificates.specs.declared.fault.Fault.TheVariants as fault
 use Rattle.reviews.specs.Reviews.{AreReviews}

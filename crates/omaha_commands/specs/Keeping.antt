@@ -1,8 +1,8 @@
 -- The apps that a batch leaves as they are; this project's profile.
 use Rattle.std.specs.Prelude.{not, Bool, List, map}
 use Rattle.std.specs.List.{list_any}
-use Rattle.records.specs.Forms.{same_id}
-use Rattle.records.specs.declared.content.App.{App}
+use Rattle.catalogue.specs.Forms.{same_id}
+use Rattle.catalogue.specs.declared.content.App.{App}
 use Rattle.catalogue.specs.declared.edit.Edit.{Edit}
 use Rattle.catalogue_laws.specs.Histories.{app_named}
 

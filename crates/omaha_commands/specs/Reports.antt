@@ -3,7 +3,7 @@ use Rattle.std.specs.Prelude.{◌≡◌, ◌⊎◌, ℕ, List, ◌++◌, codes, 
 use Rattle.std.specs.Io.KnownBytes.{Appends}
 use Rattle.streams.specs.Reading.{IsWhole}
 use Rattle.streams.specs.Writing.{Breaks}
-use Rattle.records.specs.declared.content.App.{App}
+use Rattle.catalogue.specs.declared.content.App.{App}
 use Rattle.editions.specs.Editions.{content_of}
 use Rattle.catalogue_laws.specs.Histories.{History}
 use Rattle.reviews.specs.Reviews.{AreReviews}

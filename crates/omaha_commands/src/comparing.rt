@@ -5,7 +5,7 @@ ghost use Rattle.editions.specs.Editions.{content_of};
 ghost use Rattle.omaha_commands.specs.Comparing.{Compares, IsCompared, IsReportedOn, report_of};
 ghost use Rattle.omaha_commands.specs.declared.failure.Failure.TheVariants.{Memory};
 ghost use Rattle.package_files.specs.Findings.{AreFindings};
-ghost use Rattle.records.specs.Lookups.{packages_of};
+ghost use Rattle.catalogue.specs.Lookups.{packages_of};
 ghost use Rattle.streams.specs.Streams.{Known};
 
 use crate::failure::Failure;

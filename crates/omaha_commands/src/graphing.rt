@@ -1,7 +1,7 @@
 // The command `graph`.
 
 ghost use Rattle.std.specs.Prelude.{◌≡◌, ◌<◌, IfErr, IfOk, IfSome, Ok, Err, length, option_map, true};
-ghost use Rattle.records.specs.Validity.{IsValidApp};
+ghost use Rattle.catalogue.specs.Validity.{IsValidApp};
 ghost use Rattle.editions.specs.Editions.{content_of};
 ghost use Rattle.pictures.specs.Scenes.{picture_of};
 ghost use Rattle.omaha_commands.specs.Graphing.{Draws, IsDrawn, IsGraph, PrintsGraph, cohort_in, drawn_string, release_in, release_named, subject_in, view_in};
@@ -10,12 +10,11 @@ ghost use Rattle.streams.specs.Streams.{Known};
 use crate::failure::Failure;
 use crate::printing::print;
 use crate::profile::open_profile;
-use catalogue::{App, Catalogue};
+use catalogue::{App, Catalogue, Version};
 use editions::Edition;
 use omaha_arguments::Graph;
 use pictures::{Picture, View, picture_of, write_dot, write_svg};
 use price_certificates::Fault;
-use records::Version;
 use reviews::{TrackReview, review_catalogue};
 use std::alloc::{AllocError, Global};
 use std::thread::Threads;

@@ -7,7 +7,7 @@ use Rattle.omaha_json.specs.RequestReading.{request_of_bytes}
 use Rattle.omaha_json.specs.declared.fault.RequestFault.{RequestFault}
 use Rattle.omaha_json.specs.declared.request.Request.{Request}
 use Rattle.publisher.specs.Sights.{Sight}
-use Rattle.records.specs.declared.mirror.Mirror.{Mirror}
+use Rattle.catalogue.specs.declared.mirror.Mirror.{Mirror}
 use Rattle.service_desks.specs.Workers.{Replies, stock_of as offered_by}
 use Rattle.service_desks.specs.Answering.{IsReply, Stock}
 use Rattle.service_desks.specs.Asking.{AreGranted}

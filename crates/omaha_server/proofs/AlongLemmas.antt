@@ -9,7 +9,7 @@ use Rattle.http_ports.specs.declared.terms.Terms.{Terms}
 use Rattle.http_talks.specs.Ports.{Passage}
 use Rattle.mirror_ledger.specs.Asks.{Ask}
 use Rattle.publisher.specs.Sights.{Sight}
-use Rattle.records.specs.declared.mirror.Mirror.{Mirror}
+use Rattle.catalogue.specs.declared.mirror.Mirror.{Mirror}
 use Rattle.service_desks.specs.Operators.{IsCall as IsOperatorCall}
 use Rattle.service_desks.specs.Workers.{IsCall, Progress}
 use Rattle.service_desks.specs.Asking.{GrantsFirst}

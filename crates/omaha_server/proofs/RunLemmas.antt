@@ -17,7 +17,7 @@ use Rattle.mirror_ledger.specs.declared.running.Ran.{Ran}
 use Rattle.profile_toml.specs.Laws.{AreMirrors}
 use Rattle.publisher.specs.Sights.{Allows, Sight, fresh}
 use Rattle.kept_records.specs.declared.record.Record.{Record}
-use Rattle.records.specs.declared.mirror.Mirror.{Mirror}
+use Rattle.catalogue.specs.declared.mirror.Mirror.{Mirror}
 use Rattle.service_desks.specs.Served.{IsWorked}
 use Rattle.service_desks.specs.States.{Publication, Store}
 use Rattle.systems.specs.Edges.{Edges}

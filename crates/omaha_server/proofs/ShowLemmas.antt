@@ -1,6 +1,6 @@
 -- What mirrors granted, one after the other; and what a look at them leaves.
 use Rattle.catalogue_laws.specs.Histories.{History}
-use Rattle.records.specs.declared.mirror.Mirror.{Mirror}
+use Rattle.catalogue.specs.declared.mirror.Mirror.{Mirror}
 use Rattle.operator_pages.specs.declared.counts.Counts.{Counts}
 use Rattle.operator_pages.specs.declared.publishes.Publish.{Publish}
 use Rattle.service_desks.specs.States.{State, Store, earlier_in}

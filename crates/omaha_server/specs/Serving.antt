@@ -12,7 +12,7 @@ use Rattle.http_talks.specs.Ports.{HasTalked, Passage}
 use Rattle.kept_records.specs.declared.record.Record.{Record}
 use Rattle.mirror_ledger.specs.Asks.{Ask}
 use Rattle.publisher.specs.Sights.{Sight, fresh}
-use Rattle.records.specs.declared.mirror.Mirror.{Mirror}
+use Rattle.catalogue.specs.declared.mirror.Mirror.{Mirror}
 use Rattle.service_desks.specs.Operators.{IsCall as IsOperatorCall}
 use Rattle.service_desks.specs.Served.{IsServed}
 use Rattle.service_desks.specs.States.{Publication, State, Store, publication}

@@ -13,7 +13,7 @@ use Rattle.operator_pages.specs.Health.{status_string}
 use Rattle.operator_pages.specs.Paths.{page_at}
 use Rattle.operator_pages.specs.declared.publishes.Publish.{Publish}
 use Rattle.operator_pages.specs.declared.shown.Shown.{Shown}
-use Rattle.records.specs.declared.mirror.Mirror.{Mirror}
+use Rattle.catalogue.specs.declared.mirror.Mirror.{Mirror}
 use Rattle.service_desks.specs.States.{earlier_in}
 use Rattle.omaha_server.specs.Overviews.{Overview}
 use Rattle.omaha_server.specs.declared.circumstances.Circumstances.{Circumstances}

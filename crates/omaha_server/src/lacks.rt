@@ -3,11 +3,10 @@
 use crate::checking::SystemFolder;
 use crate::notes::note;
 use crate::setup::Setup;
-use catalogue::Edit;
+use catalogue::{App, Edit};
 use http_ports::Port;
 use package_files::{Lacking, look_for, look_for_added};
 use profile_toml::read_script;
-use records::App;
 use std::sync::Wait;
 use systems::System;
 

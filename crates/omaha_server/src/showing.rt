@@ -14,6 +14,7 @@ use crate::circumstances::Circumstances;
 use crate::setup::Setup;
 use crate::traffic::{Served, Traffic};
 use app_sights::sights_of;
+use catalogue::Mirror;
 use editions::Edition;
 use http_desks::{Answer, DeskStatus, Off, Page};
 use mirror_ledger::Budgets;
@@ -21,7 +22,6 @@ use operator_pages::{
     AppSight, Counts, Outcome, Publish, Publishes, Reach, Shown, page_at, status_string,
 };
 use publisher::{Prepared, Press};
-use records::Mirror;
 use std::alloc::{AllocError, Global};
 use std::sync::Wait;
 

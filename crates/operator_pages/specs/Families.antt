@@ -1,8 +1,8 @@
 -- The metrics of more than one sample; this project's profile.
 use Rattle.std.specs.Prelude.{ℕ, if◌then◌else◌, List, ◌++◌, codes, flat_map, length}
-use Rattle.records.specs.declared.content.App.{App}
-use Rattle.records.specs.declared.content.Cohort.{Cohort}
-use Rattle.records.specs.declared.mirror.Mirror.{Mirror}
+use Rattle.catalogue.specs.declared.content.App.{App}
+use Rattle.catalogue.specs.declared.content.Cohort.{Cohort}
+use Rattle.catalogue.specs.declared.mirror.Mirror.{Mirror}
 use Rattle.operator_pages.specs.Counts.{count_of, word_of}
 use Rattle.operator_pages.specs.Labels.{cohort_labels}
 use Rattle.operator_pages.specs.Samples.{head_string, sample, sample_of}

@@ -3,7 +3,7 @@ use Rattle.std.specs.Prelude.{ℕ, Bool, if◌then◌else◌, List, [], ◌++◌
 use Rattle.markup.specs.Escaping.{escaped_string}
 use Rattle.operator_pages.specs.declared.html.Tag.{Tag}
 use Rattle.operator_pages.specs.declared.html.Tag.TheVariants as tag
-use Rattle.records.specs.Versions.{printed}
+use Rattle.catalogue.specs.Versions.{printed}
 
 -- a cell with a string
 unfoldable pub cell : List ℕ → List ℕ

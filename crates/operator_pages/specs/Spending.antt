@@ -1,7 +1,7 @@
 -- What mirrors granted of their budgets; this project's profile.
 use Rattle.std.specs.Prelude.{ℕ, List, ◌++◌, codes, decimal, flat_map}
 use Rattle.std.specs.List.{zip}
-use Rattle.records.specs.declared.mirror.Mirror.{Mirror}
+use Rattle.catalogue.specs.declared.mirror.Mirror.{Mirror}
 use Rattle.operator_pages.specs.Html.{bar, cell, name_cell, number_cell}
 use Rattle.operator_pages.specs.Samples.{sample_of}
 use Rattle.operator_pages.specs.declared.metric.Metric.{Metric}

@@ -1,7 +1,7 @@
 -- The tables of cohorts and releases; this project's profile.
 use Rattle.std.specs.Prelude.{ℕ, List, [], ◌++◌, codes, flat_map, Option, None, Some}
-use Rattle.records.specs.declared.content.Cohort.{Cohort}
-use Rattle.records.specs.declared.content.Release.{Release}
+use Rattle.catalogue.specs.declared.content.Cohort.{Cohort}
+use Rattle.catalogue.specs.declared.content.Release.{Release}
 use Rattle.operator_pages.specs.Html.{cell, name_cell, number_cell, share_cell, tag_if, named_tag, version_or}
 use Rattle.operator_pages.specs.declared.headings.TheConstants.{ROW_END}
 use Rattle.operator_pages.specs.declared.html.Tag.TheVariants as tag

@@ -1,9 +1,9 @@
 -- The metrics of what the workers counted; this project's profile.
 use Rattle.std.specs.Prelude.{ℕ, List, ◌++◌, codes, decimal, flat_map}
 use Rattle.std.specs.List.{zip}
-use Rattle.records.specs.declared.content.App.{App}
-use Rattle.records.specs.declared.content.Cohort.{Cohort}
-use Rattle.records.specs.declared.mirror.Mirror.{Mirror}
+use Rattle.catalogue.specs.declared.content.App.{App}
+use Rattle.catalogue.specs.declared.content.Cohort.{Cohort}
+use Rattle.catalogue.specs.declared.mirror.Mirror.{Mirror}
 use Rattle.tallies.specs.declared.check.Kind.{Kind}
 use Rattle.tallies.specs.declared.check.Kind.TheVariants as kind
 use Rattle.tallies.specs.declared.check.Outcome.{Outcome}

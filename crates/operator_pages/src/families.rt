@@ -8,7 +8,7 @@ use crate::labels::cohort_labels;
 use crate::metric::Metric;
 use crate::samples::{push_head, push_sample, push_sample_of};
 use crate::spending::{Place, push_mirrors};
-use records::{App, Cohort, Mirror};
+use catalogue::{App, Cohort, Mirror};
 use std::alloc::{AllocError, Global};
 
 #[tactic(auto, unfolding(crate::specs::Families::build_family))]

@@ -9,8 +9,8 @@ use crate::html::{push_name_cell, push_number_cell};
 use crate::sights::{AppSight, push_sight};
 use crate::spending::{Place, push_mirrors};
 use crate::tables::{push_cohorts, push_releases};
+use catalogue::{App, Cohort, Mirror, Release};
 use markup::push_escaped;
-use records::{App, Cohort, Mirror, Release};
 use std::alloc::{AllocError, Global};
 use std::fmt::Write;
 

@@ -1,7 +1,7 @@
 use crate::counts::Counts;
 use crate::publishes::Publish;
 use crate::sights::AppSight;
-use records::{App, Mirror};
+use catalogue::{App, Mirror};
 use tallies::Totals;
 
 /// What the pages are made of.

@@ -6,7 +6,7 @@ ghost use Rattle.operator_pages.specs.Spending.{amount_of, amounts, mirror_line,
 use crate::html::{push_bar, push_cell, push_name_cell, push_number_cell};
 use crate::metric::Metric;
 use crate::samples::push_sample_of;
-use records::Mirror;
+use catalogue::Mirror;
 use std::alloc::{AllocError, Global};
 use std::fmt::Write;
 

@@ -8,7 +8,7 @@ use crate::html::{
     Tag, push_cell, push_name_cell, push_named_tag, push_number_cell, push_share_cell, push_tag_if,
     version_or,
 };
-use records::{Cohort, Release};
+use catalogue::{Cohort, Release};
 use std::alloc::{AllocError, Global};
 use values::{Items, Text};
 

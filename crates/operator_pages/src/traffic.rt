@@ -6,7 +6,7 @@ ghost use Rattle.operator_pages.specs.Traffic.{bytes_with, check_labels, check_s
 use crate::labels::push_label_value;
 use crate::metric::Metric;
 use crate::samples::{push_head, push_sample, push_sample_of};
-use records::{App, Cohort, Mirror};
+use catalogue::{App, Cohort, Mirror};
 use std::alloc::{AllocError, Global};
 use tallies::{CODES, CheckTotals, Kind, MirrorTotals, Outcome, Totals};
 use values::Items;

@@ -3,7 +3,7 @@ use Rattle.std.proofs.Common.{◌≡◌, ℕ, List, Option, Some, true, inl, sub
 use Rattle.std.specs.Prelude.{Err}
 use Rattle.http_desks.specs.Downloads.{Reads}
 use Rattle.http_devices.specs.Opening.{Opens}
-use Rattle.records.specs.Forms.{is_package_name}
+use Rattle.catalogue.specs.Forms.{is_package_name}
 use Rattle.package_files.specs.Descriptions.{Describes, IsMeasured, IsSized, IsUnopened}
 use Rattle.package_files.specs.Hashing.{IsHashed}
 use Rattle.package_files.specs.declared.describing.DescribeError.{DescribeError}

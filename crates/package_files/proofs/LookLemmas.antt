@@ -5,10 +5,10 @@ use Rattle.std.proofs.lemmas.Grind.{flat_map-append}
 use Rattle.std.proofs.lemmas.List.{append-nil, append_assoc, drop_more, map-append, take-append-drop, take_more}
 use Rattle.std.proofs.lemmas.List.Elements.{All-append, All-cons, All-nil}
 use Rattle.catalogue.specs.declared.edit.Edit.{Edit}
-use Rattle.records.specs.Lookups.{diff_package, full_package, packages_in, packages_of}
-use Rattle.records.specs.declared.content.App.{App}
-use Rattle.records.specs.declared.content.Diff.{Diff}
-use Rattle.records.specs.declared.content.Release.{Release}
+use Rattle.catalogue.specs.Lookups.{diff_package, full_package, packages_in, packages_of}
+use Rattle.catalogue.specs.declared.content.App.{App}
+use Rattle.catalogue.specs.declared.content.Diff.{Diff}
+use Rattle.catalogue.specs.declared.content.Release.{Release}
 use Rattle.package_files.specs.Added.{added_by, added_in}
 use Rattle.package_files.specs.Findings.{Package}
 use Rattle.package_files.specs.Lacking.{AreThere, IsLooked, IsThere, Lacks, LacksFirst, Sized, Sizes, sized, sizes_in, sizes_of}

@@ -3,7 +3,7 @@ use Rattle.std.specs.Prelude.{List, [], ◌∷◌, flat_map}
 use Rattle.catalogue.specs.Changes.{new_diff, new_release}
 use Rattle.catalogue.specs.declared.edit.Edit.{Edit}
 use Rattle.catalogue.specs.declared.edit.Edit.TheVariants as edit
-use Rattle.records.specs.Lookups.{diff_package, full_package}
+use Rattle.catalogue.specs.Lookups.{diff_package, full_package}
 use Rattle.package_files.specs.Findings.{Package}
 
 -- the package that an edit adds, if it adds one

@@ -3,7 +3,7 @@ use Rattle.std.specs.Prelude.{◌≡◌, ◌⊎◌, ⊤, ℕ, true, false, List,
 use Rattle.hex.specs.Hex.{encode_lower}
 use Rattle.http_desks.specs.Downloads.{Reads}
 use Rattle.http_devices.specs.declared.entry.Entry.TheVariants as entry
-use Rattle.records.specs.Forms.{is_package_name, is_size}
+use Rattle.catalogue.specs.Forms.{is_package_name, is_size}
 use Rattle.http_devices.specs.Opening.{Opens}
 use Rattle.package_files.specs.Hashing.{IsHashed}
 use Rattle.package_files.specs.declared.describing.DescribeError.{DescribeError}

@@ -2,8 +2,8 @@
 use Rattle.std.specs.Prelude.{◌≡◌, ◌≢◌, ℕ, All, List, ◌∷◌, ◌++◌, codes, decimal, flat_map, map, Option, None, Some, Result, Ok, Err}
 use Rattle.percent_encoding.specs.Percent.{percent_encode}
 use Rattle.catalogue.specs.declared.edit.Edit.{Edit}
-use Rattle.records.specs.Lookups.{packages_of}
-use Rattle.records.specs.declared.content.App.{App}
+use Rattle.catalogue.specs.Lookups.{packages_of}
+use Rattle.catalogue.specs.declared.content.App.{App}
 use Rattle.package_files.specs.Added.{added_in}
 use Rattle.package_files.specs.FindingStrings.{ascii_controls}
 use Rattle.package_files.specs.Findings.{Package}

@@ -1,10 +1,10 @@
 -- The steps of a look for packages.
 use Rattle.std.specs.Prelude.{List, [], ◌∷◌, flat_map, map}
 use Rattle.catalogue.specs.declared.edit.Edit.{Edit}
-use Rattle.records.specs.Lookups.{packages_in}
-use Rattle.records.specs.declared.content.App.{App}
-use Rattle.records.specs.declared.content.Diff.{Diff}
-use Rattle.records.specs.declared.content.Release.{Release}
+use Rattle.catalogue.specs.Lookups.{packages_in}
+use Rattle.catalogue.specs.declared.content.App.{App}
+use Rattle.catalogue.specs.declared.content.Diff.{Diff}
+use Rattle.catalogue.specs.declared.content.Release.{Release}
 use Rattle.package_files.specs.Added.{added_by}
 use Rattle.package_files.specs.Lacking.{Sized, sized}
 

@@ -1,18 +1,17 @@
 //! The declared packages, each compared with its file.
 
 ghost use Rattle.std.specs.Prelude.{◌≡◌, ◌∷◌, [], IfOk, OnOk, length, map};
-ghost use Rattle.records.specs.Lookups.{diff_package, full_package, packages_in, packages_of};
-ghost use Rattle.records.specs.Forms.{hash_named};
+ghost use Rattle.catalogue.specs.Lookups.{diff_package, full_package, packages_in, packages_of};
+ghost use Rattle.catalogue.specs.Forms.{hash_named};
 ghost use Rattle.package_files.specs.Added.{added_by, added_in};
 ghost use Rattle.package_files.specs.Findings.{Adds, AreBytes, AreFindings, IsFound};
 
 use crate::finding::{Finding, Mismatch};
 use crate::hashing::hash_package;
-use catalogue::Edit;
+use catalogue::form::hash_named;
+use catalogue::{App, Declared, Diff, Edit, Release};
 use http_desks::{BLOCK, Packages};
 use http_devices::{Entry, OpenPackages};
-use records::form::hash_named;
-use records::{App, Declared, Diff, Release};
 use std::alloc::{AllocError, Global};
 use values::{Items, Shared, Text};
 

@@ -5,9 +5,9 @@ ghost use Rattle.hex.specs.Hex.{encode_lower};
 ghost use Rattle.package_files.specs.Descriptions.{Describes, IsSized, IsUnopened, description_string};
 
 use crate::hashing::hash_package;
+use catalogue::form::{is_package_name, is_size};
 use http_desks::{BLOCK, Packages};
 use http_devices::{Entry, OpenPackages};
-use records::form::{is_package_name, is_size};
 use std::alloc::{AllocError, Global};
 use std::error::Error;
 use std::fmt;

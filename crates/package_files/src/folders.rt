@@ -4,14 +4,13 @@ ghost use Rattle.std.specs.Prelude.{◌≡◌, Err, IfErr, IfOk, Ok, string_byte
 ghost use Rattle.package_files.specs.Added.{added_in};
 ghost use Rattle.package_files.specs.Descriptions.{Describes};
 ghost use Rattle.package_files.specs.Findings.{AreFindings};
-ghost use Rattle.records.specs.Lookups.{packages_of};
+ghost use Rattle.catalogue.specs.Lookups.{packages_of};
 
 use crate::comparing::{compare, compare_added};
 use crate::describing::{DescribeError, describe};
 use crate::finding::Finding;
-use catalogue::Edit;
+use catalogue::{App, Edit};
 use http_devices::Folder;
-use records::App;
 use std::alloc::{AllocError, Global};
 use std::rt::Files;
 use values::Items;

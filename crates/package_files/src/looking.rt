@@ -5,8 +5,7 @@ ghost use Rattle.package_files.specs.Lacking.{IsLooked, sizes_in, sizes_of};
 ghost use Rattle.package_files.specs.Looking.{app_sizes, diff_sizes, edit_sizes, release_sizes};
 
 use crate::lacking::{Lack, Lacking, PackageSizes};
-use catalogue::Edit;
-use records::{App, Diff, Release};
+use catalogue::{App, Diff, Edit, Release};
 use values::Shared;
 
 // rule: Package that a folder lacks

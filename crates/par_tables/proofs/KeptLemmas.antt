@@ -3,7 +3,7 @@ use Rattle.std.proofs.Common.{◌≡◌, List, Option, None, Some, Contains, tru
 use Rattle.std.specs.List.{All}
 use Rattle.std.specs.Option.{is_some, IsSome, MatchOption}
 use Rattle.std.proofs.lemmas.List.Elements.{All-contains}
-use Rattle.records.specs.declared.content.App.{App}
+use Rattle.catalogue.specs.declared.content.App.{App}
 use Rattle.payload_graph.specs.declared.payload.TrackKey.{TrackKey}
 use Rattle.payload_graph.specs.Net.{Net, net_among}
 use Rattle.price_cert.specs.Tables.{Certificate}

@@ -3,7 +3,7 @@ use Rattle.std.proofs.Common.{◌≡◌, ℕ, ◌+◌, ◌<◌, List, [], ◌∷
 use Rattle.std.specs.List.{All, filter_map}
 use Rattle.std.proofs.lemmas.List.{append-nil, append_assoc, map-append, take_more}
 use Rattle.std.proofs.lemmas.List.Elements.{All-push, filter_map-append}
-use Rattle.records.specs.declared.content.App.{App}
+use Rattle.catalogue.specs.declared.content.App.{App}
 use Rattle.payload_graph.specs.declared.payload.TrackKey.{TrackKey}
 use Rattle.payload_graph.specs.Net.{Net, net_among}
 use Rattle.price_cert.specs.Tables.{Certificate}

@@ -7,13 +7,13 @@ use Rattle.std.proofs.lemmas.List.Elements.{All-from_recursion}
 use Rattle.std.proofs.lemmas.List.Sorted.{IsPermutation-reverse, list_any-IsPermutation}
 use Rattle.std.proofs.lemmas.Option.{get_or_from_slice_get, slice_get_within}
 use Rattle.std.proofs.lemmas.Slice.Eq.{bytes_eq-Decides}
-use Rattle.records.specs.Forms.{is_cohort_name}
-use Rattle.records.specs.Limits.{max_share}
-use Rattle.records.specs.Lookups.{has_release, is_release}
-use Rattle.records.specs.Validity.{IsValid, IsValidApp, is_released, is_valid_cohort}
-use Rattle.records.specs.declared.content.App.{App}
-use Rattle.records.specs.declared.content.Cohort.{Cohort}
-use Rattle.records.specs.declared.content.Release.{Release}
+use Rattle.catalogue.specs.Forms.{is_cohort_name}
+use Rattle.catalogue.specs.Limits.{max_share}
+use Rattle.catalogue.specs.Lookups.{has_release, is_release}
+use Rattle.catalogue.specs.Validity.{IsValid, IsValidApp, is_released, is_valid_cohort}
+use Rattle.catalogue.specs.declared.content.App.{App}
+use Rattle.catalogue.specs.declared.content.Cohort.{Cohort}
+use Rattle.catalogue.specs.declared.content.Release.{Release}
 use Rattle.cohorts.specs.Offers.{highest_offered, is_any, is_offered_within, pinned_target, target_of, track_target}
 use Rattle.cohorts.specs.declared.pin.Pin.{Pin}
 use Rattle.cohorts.specs.declared.track.Lane.{Lane}

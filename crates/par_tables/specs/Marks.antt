@@ -1,7 +1,7 @@
 -- The tables of some cohorts of a content, and those kept of the others; this project's profile.
 use Rattle.std.specs.Prelude.{◌≡◌, ℕ, ◌<◌, Bool, true, false, List, [], All, Some, length, map, slice_index_or}
 use Rattle.std.specs.List.{filter}
-use Rattle.records.specs.declared.content.App.{App}
+use Rattle.catalogue.specs.declared.content.App.{App}
 use Rattle.cohorts.specs.declared.pin.Pin.TheVariants as pin
 use Rattle.payload_graph.specs.declared.payload.TrackKey.{TrackKey}
 use Rattle.payload_graph.specs.Net.{Net, net_among}

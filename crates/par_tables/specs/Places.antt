@@ -1,6 +1,6 @@
 -- Where the tables of a list are found: those of one cohort are together, four at most.
 use Rattle.std.specs.Prelude.{◌≡◌, ℕ, ◌+◌, ◌<◌, ◌≤◌, List, length, slice_get, slice_index_or, take, Option, Some, option_and_then}
-use Rattle.records.specs.declared.content.App.{App}
+use Rattle.catalogue.specs.declared.content.App.{App}
 use Rattle.payload_graph.specs.declared.payload.TrackKey.{TrackKey}
 use Rattle.payload_graph.specs.Net.{Net}
 use Rattle.price_cert.specs.Tables.{Certificate}

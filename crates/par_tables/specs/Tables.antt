@@ -1,6 +1,6 @@
 -- The tables of a catalogue: one for each track that has a target.
 use Rattle.std.specs.Prelude.{◌≡◌, List, ◌++◌, All, Any, Some, filter_map, map}
-use Rattle.records.specs.declared.content.App.{App}
+use Rattle.catalogue.specs.declared.content.App.{App}
 use Rattle.cohorts.specs.declared.pin.Pin.TheVariants as pin
 use Rattle.payload_graph.specs.declared.payload.TrackKey.{TrackKey}
 use Rattle.payload_graph.specs.Net.{Net, net_among}

@@ -3,7 +3,7 @@
 ghost use Rattle.std.specs.Prelude.{◌≡◌, ◌+◌, ◌<◌, true, All, IfOk, OnOk, length, take};
 ghost use Rattle.std.specs.List.{filter, list_all};
 ghost use Rattle.std.specs.Option.{is_some};
-ghost use Rattle.records.specs.Validity.{is_valid_cohort};
+ghost use Rattle.catalogue.specs.Validity.{is_valid_cohort};
 ghost use Rattle.payload_graph.specs.Net.{net_in};
 ghost use Rattle.par_tables.specs.Marks.{is_marked, marked_keys, marked_tracks};
 ghost use Rattle.par_tables.specs.Pieces.{has_target, tracks_of, HasTarget};

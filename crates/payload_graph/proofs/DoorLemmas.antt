@@ -3,9 +3,9 @@ use Rattle.std.proofs.Common.{◌≡◌, ℕ, ◌+◌, ◌<◌, ◌≤◌, true,
 use Rattle.std.specs.List.{All, enumerate_from}
 use Rattle.std.proofs.lemmas.List.{get_or-map, length-map}
 use Rattle.std.proofs.lemmas.List.FromFn.{get_or-enumerate_from, length-enumerate_from}
-use Rattle.records.specs.Forms.{is_size}
-use Rattle.records.specs.declared.content.Cohort.{Cohort}
-use Rattle.records.specs.declared.content.Release.{Release}
+use Rattle.catalogue.specs.Forms.{is_size}
+use Rattle.catalogue.specs.declared.content.Cohort.{Cohort}
+use Rattle.catalogue.specs.declared.content.Release.{Release}
 use Rattle.cohorts.specs.declared.pin.Pin.{Pin}
 use Rattle.payload_graph.proofs.FloorLemmas.{place_of-bound}
 use Rattle.payload_graph.specs.Net.{door_of, doors_of}

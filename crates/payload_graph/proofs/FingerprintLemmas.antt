@@ -16,11 +16,11 @@ use Rattle.values.proofs.OnceLemmas.{position-once}
 use Rattle.hex.specs.Hex.{IsBytes, decode_sized, encode_lower, encode_with, hex_digit_value, lower_digits}
 use Rattle.hex.specs.declared.error.FromHexError.{FromHexError}
 use Rattle.hex.proofs.HexLemmas.{IsDigits-lower_digits, decode_sized-encode_lower}
-use Rattle.records.specs.Lookups.{cohorts_at, has_hash, releases_at}
-use Rattle.records.specs.Validity.{IsValid, IsValidApp, is_valid_release}
-use Rattle.records.specs.declared.content.App.{App}
-use Rattle.records.specs.declared.content.Cohort.{Cohort}
-use Rattle.records.specs.declared.content.Release.{Release}
+use Rattle.catalogue.specs.Lookups.{cohorts_at, has_hash, releases_at}
+use Rattle.catalogue.specs.Validity.{IsValid, IsValidApp, is_valid_release}
+use Rattle.catalogue.specs.declared.content.App.{App}
+use Rattle.catalogue.specs.declared.content.Cohort.{Cohort}
+use Rattle.catalogue.specs.declared.content.Release.{Release}
 use Rattle.payload_graph.specs.Places.{fingerprint_with, has_fingerprint, IsHashOf}
 
 -- a digit of the table is one number

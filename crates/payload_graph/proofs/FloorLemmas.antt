@@ -2,12 +2,12 @@
 use Rattle.std.proofs.Common.{◌≡◌, ℕ, ◌<◌, ◌≤◌, ◌&&◌, inl, inr, Bool, false, true, refl, leb, not, List, length, get_or, sym, ap, ◌∙◌, arith}
 use Rattle.std.proofs.lemmas.Bool.{cases_eq, cases_lt, false_from_ne_true, false≢true, le-leb, lt-leb, not-false, not-true, not_from_false, not_from_true}
 use Rattle.std.proofs.lemmas.List.Sums.{prefix_len-le-length, prefix_len_passes, prefix_len_stops}
-use Rattle.records.specs.VersionLaws.{BelowIsTransitive}
-use Rattle.records.specs.Versions.{is_below}
+use Rattle.catalogue.specs.VersionLaws.{BelowIsTransitive}
+use Rattle.catalogue.specs.Versions.{is_below}
 use Rattle.values.specs.Ordered.{ascend}
-use Rattle.records.specs.Lookups.{place_of}
-use Rattle.records.specs.Validity.{is_release_below}
-use Rattle.records.specs.declared.content.Release.{Release}
+use Rattle.catalogue.specs.Lookups.{place_of}
+use Rattle.catalogue.specs.Validity.{is_release_below}
+use Rattle.catalogue.specs.declared.content.Release.{Release}
 use Rattle.payload_graph.proofs.OrderLemmas.{below_at}
 
 pub and-swap : (b c : Bool) → (b && c) ≡ (c && b)

@@ -5,12 +5,12 @@ use Rattle.std.proofs.lemmas.List.Folds.{Any-from_list_any, find_at}
 use Rattle.std.proofs.lemmas.List.Sums.{prefix_len-le-length, prefix_len_passes, prefix_len_stops}
 use Rattle.std.proofs.lemmas.Option.{slice_get-get_or}
 use Rattle.std.proofs.lemmas.Slice.Eq.{bytes_eq-Decides}
-use Rattle.records.specs.VersionLaws.{BelowIsIrreflexive, BelowIsTransitive}
-use Rattle.records.specs.Versions.{is_below}
-use Rattle.records.specs.Lookups.{has_release, is_release}
+use Rattle.catalogue.specs.VersionLaws.{BelowIsIrreflexive, BelowIsTransitive}
+use Rattle.catalogue.specs.Versions.{is_below}
+use Rattle.catalogue.specs.Lookups.{has_release, is_release}
 use Rattle.values.specs.Ordered.{ascend}
-use Rattle.records.specs.Validity.{is_release_below}
-use Rattle.records.specs.declared.content.Release.{Release}
+use Rattle.catalogue.specs.Validity.{is_release_below}
+use Rattle.catalogue.specs.declared.content.Release.{Release}
 use Rattle.payload_graph.specs.Chains.{index_of}
 use Rattle.payload_graph.proofs.OrderLemmas.{not_below_at}
 

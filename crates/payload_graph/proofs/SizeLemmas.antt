@@ -2,7 +2,7 @@
 use Rattle.std.proofs.Common.{◌≡◌, ℕ, ◌+◌, get_or, ap, arith, Bool, true, false, cond, List, [], ◌∷◌, ltb, take, drop}
 use Rattle.std.specs.List.{All, filter}
 use Rattle.std.proofs.lemmas.List.Elements.{All-append, All-cons, All-drop, All-filter, All-from_get_or, All-head, All-map, All-nil, All-tail, All-take}
-use Rattle.records.specs.Forms.{is_size}
+use Rattle.catalogue.specs.Forms.{is_size}
 use Rattle.payload_graph.specs.Laws.{EdgesAreSized, IsDoorOf, WindowsHoldDoors}
 use Rattle.payload_graph.specs.Soundness.{no_door}
 use Rattle.payload_graph.specs.Net.{Net, full, fulls, leaves, opens, to_stone, window}

@@ -2,12 +2,12 @@
 use Rattle.std.proofs.Common.{◌≡◌, ℕ, ◌+◌, ◌-◌, ◌<◌, ◌≤◌, ◌&&◌, inl, inr, Bool, true, false, List, length, get_or, take, refl, sym, ap, ◌∙◌, arith}
 use Rattle.std.specs.List.{list_any}
 use Rattle.std.proofs.lemmas.Bool.{and_from, and_left, and_right, cases_lt, not_from_false, not_from_true}
-use Rattle.records.specs.VersionLaws.{BelowIsIrreflexive, BelowIsTransitive}
-use Rattle.records.specs.Versions.{is_below}
+use Rattle.catalogue.specs.VersionLaws.{BelowIsIrreflexive, BelowIsTransitive}
+use Rattle.catalogue.specs.Versions.{is_below}
 use Rattle.values.specs.Ordered.{ascend}
-use Rattle.records.specs.Validity.{is_release_below}
-use Rattle.records.specs.declared.content.Cohort.{Cohort}
-use Rattle.records.specs.declared.content.Release.{Release}
+use Rattle.catalogue.specs.Validity.{is_release_below}
+use Rattle.catalogue.specs.declared.content.Cohort.{Cohort}
+use Rattle.catalogue.specs.declared.content.Release.{Release}
 use Rattle.cohorts.specs.declared.pin.Pin.{Pin}
 use Rattle.payload_graph.specs.Permitted.{is_stone_between, jumps_stone, leads_up}
 use Rattle.payload_graph.proofs.DoorLemmas.{get_or-doors_of, length-doors_of}

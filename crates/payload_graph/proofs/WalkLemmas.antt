@@ -5,14 +5,14 @@ use Rattle.std.specs.Str.{bytes_eq}
 use Rattle.std.proofs.lemmas.Bool.{and_parts, or_cases}
 use Rattle.std.proofs.lemmas.List.{get_or_read, map_more}
 use Rattle.std.proofs.lemmas.Slice.Eq.{bytes_eq-Decides}
-use Rattle.records.specs.VersionLaws.{BelowIsIrreflexive, BelowIsTransitive}
-use Rattle.records.specs.Versions.{is_below}
-use Rattle.records.specs.Forms.{is_hash, is_package_name, is_size}
-use Rattle.records.specs.Lookups.{has_release}
+use Rattle.catalogue.specs.VersionLaws.{BelowIsIrreflexive, BelowIsTransitive}
+use Rattle.catalogue.specs.Versions.{is_below}
+use Rattle.catalogue.specs.Forms.{is_hash, is_package_name, is_size}
+use Rattle.catalogue.specs.Lookups.{has_release}
 use Rattle.values.specs.Ordered.{ascend}
-use Rattle.records.specs.Validity.{is_diff_before, is_valid_diff, is_release_below}
-use Rattle.records.specs.declared.content.Diff.{Diff}
-use Rattle.records.specs.declared.content.Release.{Release}
+use Rattle.catalogue.specs.Validity.{is_diff_before, is_valid_diff, is_release_below}
+use Rattle.catalogue.specs.declared.content.Diff.{Diff}
+use Rattle.catalogue.specs.declared.content.Release.{Release}
 use Rattle.payload_graph.specs.Chains.{index_of}
 use Rattle.payload_graph.proofs.IndexLemmas.{index_of-below}
 use Rattle.payload_graph.proofs.OrderLemmas.{ascend-get_or, list_all-get_or}

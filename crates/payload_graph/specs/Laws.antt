@@ -2,12 +2,12 @@
 use Rattle.std.specs.Prelude.{◌≡◌, ℕ, ◌+◌, ◌<◌, All, true, if◌then◌else◌, List, [], ◌∷◌, ◌++◌, length, map, slice_get, Some}
 use Rattle.std.specs.List.{enumerate_from, filter}
 use Rattle.values.specs.Ordered.{ascend}
-use Rattle.records.specs.Forms.{is_size}
-use Rattle.records.specs.Validity.{IsValidApp, is_release_below}
-use Rattle.records.specs.declared.content.App.{App}
-use Rattle.records.specs.declared.content.Cohort.{Cohort}
-use Rattle.records.specs.declared.content.Diff.{Diff}
-use Rattle.records.specs.declared.content.Release.{Release}
+use Rattle.catalogue.specs.Forms.{is_size}
+use Rattle.catalogue.specs.Validity.{IsValidApp, is_release_below}
+use Rattle.catalogue.specs.declared.content.App.{App}
+use Rattle.catalogue.specs.declared.content.Cohort.{Cohort}
+use Rattle.catalogue.specs.declared.content.Diff.{Diff}
+use Rattle.catalogue.specs.declared.content.Release.{Release}
 use Rattle.cohorts.specs.Offers.{track_target}
 use Rattle.payload_graph.specs.Permitted.{permits}
 use Rattle.payload_graph.specs.declared.payload.Payload.TheVariants.{Full, Differ}

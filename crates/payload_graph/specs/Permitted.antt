@@ -3,12 +3,12 @@
 use Rattle.std.specs.Prelude.{ℕ, ◌&&◌, ◌||◌, not, Bool, false, List, find, slice_get, Option}
 use Rattle.std.specs.List.{list_any}
 use Rattle.std.specs.Option.{option_map_or}
-use Rattle.records.specs.Versions.{is_below}
-use Rattle.records.specs.Lookups.{is_release}
-use Rattle.records.specs.declared.content.App.{App}
-use Rattle.records.specs.declared.content.Cohort.{Cohort}
-use Rattle.records.specs.declared.content.Diff.{Diff}
-use Rattle.records.specs.declared.content.Release.{Release}
+use Rattle.catalogue.specs.Versions.{is_below}
+use Rattle.catalogue.specs.Lookups.{is_release}
+use Rattle.catalogue.specs.declared.content.App.{App}
+use Rattle.catalogue.specs.declared.content.Cohort.{Cohort}
+use Rattle.catalogue.specs.declared.content.Diff.{Diff}
+use Rattle.catalogue.specs.declared.content.Release.{Release}
 use Rattle.cohorts.specs.Offers.{is_offered, track_target}
 use Rattle.cohorts.specs.declared.pin.Pin.{Pin}
 use Rattle.payload_graph.specs.Places.{version_at}

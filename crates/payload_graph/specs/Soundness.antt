@@ -3,11 +3,11 @@
 use Rattle.std.specs.Prelude.{◌≡◌, ℕ, ◌+◌, ◌<◌, ◌≤◌, ◌==◌, ◌&&◌, ◌⊎◌, All, Bool, if◌then◌else◌, false, true, List, [], drop, length, nat_le, nat_lt, slice_get, slice_index, slice_index_or, take, Option, None, Some, option_and_then, option_map}
 use Rattle.std.specs.List.Sorted.{IsNonDecreasingBy}
 use Rattle.std.specs.List.{filter}
-use Rattle.records.specs.Forms.{is_size}
-use Rattle.records.specs.Limits.{max_releases}
-use Rattle.records.specs.declared.content.Cohort.{Cohort}
-use Rattle.records.specs.declared.content.Release.{Release}
-use Rattle.records.specs.declared.content.App.{App}
+use Rattle.catalogue.specs.Forms.{is_size}
+use Rattle.catalogue.specs.Limits.{max_releases}
+use Rattle.catalogue.specs.declared.content.Cohort.{Cohort}
+use Rattle.catalogue.specs.declared.content.Release.{Release}
+use Rattle.catalogue.specs.declared.content.App.{App}
 use Rattle.payload_graph.specs.Chains.{cohort_target}
 use Rattle.payload_graph.specs.Permitted.{rolls_back}
 use Rattle.payload_graph.specs.declared.payload.TrackKey.{TrackKey}

@@ -4,7 +4,7 @@ ghost use Rattle.std.specs.Prelude.{◌≡◌, ◌-◌, ◌^◌, ◌<◌, ◌≤
 ghost use Rattle.std.specs.List.{filter, list_all, AllWithin};
 ghost use Rattle.std.specs.List.Sorted.{IsNonDecreasingBy};
 ghost use Rattle.values.specs.Ordered.{ascend};
-ghost use Rattle.records.specs.Validity.{is_diff_before, is_valid_diff, is_release_below};
+ghost use Rattle.catalogue.specs.Validity.{is_diff_before, is_valid_diff, is_release_below};
 ghost use Rattle.payload_graph.specs.Chains.{index_of};
 ghost use Rattle.payload_graph.specs.Net.{edge_of, leaves};
 ghost use Rattle.payload_graph.specs.declared.edge.Edge.{Edge};
@@ -12,8 +12,7 @@ ghost use Rattle.payload_graph.specs.Soundness.{is_reached, AreReaches, AreResol
 
 use crate::door::Door;
 use crate::edge::{Edge, Kind};
-use catalogue::{Diff, Release};
-use records::Version;
+use catalogue::{Diff, Release, Version};
 use std::alloc::{AllocError, Global};
 use values::Shared;
 
@@ -48,7 +47,7 @@ pub(crate) fn resolve(
     requires good { list_all (is_valid_diff releases.now) diffs.now ≡ true }
     ensures { IfOk result (λ edges. edges.items ≡ map (edge_of releases.now) diffs.now) }
 {
-    records::version_laws::order();
+    catalogue::version_laws::order();
     let mut edges = Vec::with_capacity(alloc, diffs.len())?;
     let mut from = 0;
     let mut to = 0;

@@ -2,13 +2,12 @@
 
 ghost use Rattle.std.specs.Prelude.{◌≡◌, true, IfOk};
 ghost use Rattle.values.specs.Ordered.{ascend};
-ghost use Rattle.records.specs.Lookups.{place_of};
-ghost use Rattle.records.specs.Validity.{is_release_below};
+ghost use Rattle.catalogue.specs.Lookups.{place_of};
+ghost use Rattle.catalogue.specs.Validity.{is_release_below};
 ghost use Rattle.payload_graph.specs.Net.{door_of, doors_of, opens};
 
-use catalogue::{Cohort, Release};
+use catalogue::{Cohort, Release, Version, lookup};
 use cohorts::{Pin, is_offered};
-use records::{Version, lookup};
 use std::alloc::{AllocError, Global};
 
 /// A release as a destination of a track's clients.

@@ -2,12 +2,11 @@
 
 ghost use Rattle.std.specs.Prelude.{◌≡◌, ◌<◌, IfSome, Some, length, position};
 ghost use Rattle.hex.specs.Hex.{encode_lower};
-ghost use Rattle.records.specs.Lookups.{releases_at};
+ghost use Rattle.catalogue.specs.Lookups.{releases_at};
 ghost use Rattle.payload_graph.specs.Places.{has_fingerprint, IsHashOf};
 
-use catalogue::{Catalogue, Release};
+use catalogue::{Catalogue, Release, Version};
 use hex::FromHex;
-use records::Version;
 
 fn encode_digits(hash: [u8; 32]) -> [u8; 64]
     ensures { result ≡ encode_lower hash }

@@ -5,7 +5,7 @@ ghost use Rattle.payload_graph.specs.Net.{edges_from, edges_into, leaves, window
 ghost use Rattle.payload_graph.specs.Soundness.{net_from, openings, AreBounded, AreNumbered, AreResolved, IsBounded, IsNearing, LeadsNearer};
 ghost use Rattle.payload_graph.specs.declared.edge.Edge.{Edge};
 ghost use Rattle.values.specs.Ordered.{ascend};
-ghost use Rattle.records.specs.Validity.{is_release_below};
+ghost use Rattle.catalogue.specs.Validity.{is_release_below};
 
 use crate::differential::{leaving, reached_in};
 use crate::door::{Door, doors_of};

@@ -7,14 +7,14 @@ ghost use Rattle.payload_graph.specs.Laws.{DiffersArePermitted, EdgesAreSized, E
 pub fn fulls()
     ensures { FullsArePermitted }
 {
-    records::version_laws::order();
+    catalogue::version_laws::order();
 }
 
 /// States that the differentials of a release are the permitted ones, each once, in order.
 pub fn differs()
     ensures { DiffersArePermitted }
 {
-    records::version_laws::order();
+    catalogue::version_laws::order();
 }
 
 /// States how the windows of neighbours differ.

@@ -7,9 +7,8 @@ ghost use Rattle.payload_graph.specs.Permitted.{end_of, is_offered_at, is_stone_
 
 use crate::payload::{Payload, TrackKey};
 use crate::place::{Place, version_at};
-use catalogue::{App, Catalogue, Cohort, Diff, Release};
+use catalogue::{App, Catalogue, Cohort, Diff, Release, Version};
 use cohorts::{Pin, is_offered, track_target};
-use records::Version;
 
 // rule: Floor
 fn meets_floor(from: &Version, release: &Release) -> bool

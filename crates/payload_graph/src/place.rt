@@ -1,10 +1,9 @@
 ghost use Rattle.std.specs.Prelude.{◌≡◌, ◌<◌, length};
-ghost use Rattle.records.specs.Lookups.{releases_at};
+ghost use Rattle.catalogue.specs.Lookups.{releases_at};
 ghost use Rattle.payload_graph.specs.Places.{place_of, version_at, IsWithin};
 
 use crate::fingerprint::find_fingerprint;
-use catalogue::{Catalogue, Release};
-use records::Version;
+use catalogue::{Catalogue, Release, Version};
 
 /// Where a client is among the releases of an app.
 #[derive(Clone, Copy, Debug, PartialEq, Eq)]

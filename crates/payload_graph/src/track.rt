@@ -2,7 +2,7 @@
 
 ghost use Rattle.std.specs.Prelude.{◌≡◌, ◌<◌, true, IfOk, IfSome, length};
 ghost use Rattle.values.specs.Ordered.{ascend};
-ghost use Rattle.records.specs.Validity.{is_release_below};
+ghost use Rattle.catalogue.specs.Validity.{is_release_below};
 ghost use Rattle.payload_graph.specs.Chains.{cohort_target};
 ghost use Rattle.payload_graph.specs.Net.{net_among, resolved_at};
 ghost use Rattle.payload_graph.specs.Soundness.{net_in_cohort, net_in_app, AreBounded, AreResolved};
@@ -113,7 +113,7 @@ impl Graph {
         requires resolved { differentials.now ≡ resolved_at catalogue.now key.now.app }
         ensures { IfOk result (λ graph. graph ≡ net_among catalogue.now key.now) }
     {
-        records::version_laws::order();
+        catalogue::version_laws::order();
         catalogue.validity();
         let app = &catalogue.apps()[key.app];
         graph_in_app(alloc, app, key, differentials.edges.as_slice())

@@ -1,7 +1,7 @@
 -- One package more along a chain.
 use Rattle.std.proofs.Common.{◌≡◌, ℕ, zero, suc, ◌+◌, ◌-◌, ◌<◌, List, [], ◌∷◌, ◌++◌, Option, None, Some, ap, sym, ◌∙◌, refl, arith, append_assoc}
 use Rattle.std.specs.Option.{option_map_or}
-use Rattle.records.specs.declared.content.App.{App}
+use Rattle.catalogue.specs.declared.content.App.{App}
 use Rattle.reviews.specs.declared.review.TrackReview.{TrackReview}
 use Rattle.pictures.specs.Scenes.{arrow_at, chain_within}
 use Rattle.pictures.specs.declared.arrows.Arrow.{Arrow}

@@ -1,7 +1,7 @@
 -- Pictures as graphs: the language DOT of Graphviz; this project's profile.
 use Rattle.std.specs.Prelude.{ℕ, ◌==◌, ◌-◌, nat_lt, if◌then◌else◌, chars, codes, decimal, encode_utf8, List, [], ◌++◌, flat_map, Option, None, Some}
 use Rattle.std.specs.Option.{option_map_or}
-use Rattle.records.specs.declared.content.App.{App}
+use Rattle.catalogue.specs.declared.content.App.{App}
 use Rattle.payload_graph.specs.declared.payload.Payload.{Payload}
 use Rattle.payload_graph.specs.declared.payload.Payload.TheVariants.{Full, Differ}
 use Rattle.pictures.specs.Labels.{arrow_tip, bytes_of, label_string, node_tip, pen_string, word_if}

@@ -1,9 +1,9 @@
 -- The words in a picture; this project's profile.
 use Rattle.std.specs.Prelude.{ℕ, ◌==◌, ◌*◌, ◌/◌, ◌%◌, nat_lt, Bool, if◌then◌else◌, codes, decimal, List, [], ◌++◌, flat_map, length, slice_get}
 use Rattle.std.specs.Option.{option_map_or}
-use Rattle.records.specs.declared.content.App.{App}
-use Rattle.records.specs.declared.content.Diff.{Diff}
-use Rattle.records.specs.declared.content.Release.{Release}
+use Rattle.catalogue.specs.declared.content.App.{App}
+use Rattle.catalogue.specs.declared.content.Diff.{Diff}
+use Rattle.catalogue.specs.declared.content.Release.{Release}
 use Rattle.cohorts.specs.declared.track.Lane.{Lane}
 use Rattle.cohorts.specs.declared.track.Lane.TheVariants as lane
 use Rattle.payload_graph.specs.declared.payload.Payload.{Payload}

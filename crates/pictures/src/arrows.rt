@@ -3,7 +3,7 @@
 ghost use Rattle.std.specs.Prelude.{◌≡◌, ◌++◌, IfOk, OnOk, fold, true};
 ghost use Rattle.std.specs.List.{list_any};
 ghost use Rattle.values.specs.Ordered.{ascend};
-ghost use Rattle.records.specs.Validity.{is_release_below};
+ghost use Rattle.catalogue.specs.Validity.{is_release_below};
 ghost use Rattle.pictures.specs.Scenes.{all_arrows, arrow_at, arrow_by, arrows_of, arrows_on, chain_of, has_arrow, is_same_arrow, same_kind, with_arrow, with_arrows};
 
 use crate::view::{View, is_shown};

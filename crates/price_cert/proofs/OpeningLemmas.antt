@@ -6,7 +6,7 @@ use Rattle.std.proofs.lemmas.List.{append-nil, get_or-take, get_or_default, leng
 use Rattle.std.proofs.lemmas.List.Elements.{All-filter, All-map}
 use Rattle.std.proofs.lemmas.List.Folds.{Any-from_list_any, list_all-append, list_all-map, list_any-append, list_any_at}
 use Rattle.std.proofs.lemmas.List.Sums.{AllPass-from_list_all, list_all-from_AllPass}
-use Rattle.records.specs.Forms.{is_size}
+use Rattle.catalogue.specs.Forms.{is_size}
 use Rattle.payload_graph.specs.Net.{Net, full, fulls, opens}
 use Rattle.payload_graph.specs.Soundness.{AreNumbered, is_floor_of, no_door, openings}
 use Rattle.payload_graph.specs.declared.door.Door.{Door}

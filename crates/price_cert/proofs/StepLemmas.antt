@@ -6,7 +6,7 @@ use Rattle.std.proofs.lemmas.Bool.{and_from, and_parts, cases_lt, eq-eqb, eqb-tr
 use Rattle.std.proofs.lemmas.List.Elements.{All-head, All-tail}
 use Rattle.std.proofs.lemmas.Option.{get_or_from_slice_get}
 use Rattle.std.proofs.lemmas.List.{append_assoc, take_more}
-use Rattle.records.specs.Forms.{is_size}
+use Rattle.catalogue.specs.Forms.{is_size}
 use Rattle.payload_graph.specs.Laws.{WindowsGrowDown, WindowsHoldDoors}
 use Rattle.payload_graph.specs.Net.{Net, fulls, opens, window}
 use Rattle.payload_graph.specs.Soundness.{AreNumbered, is_floor_of, no_door}

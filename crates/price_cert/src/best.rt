@@ -1,7 +1,7 @@
 //! The better one of two payloads.
 
 ghost use Rattle.std.specs.Prelude.{◌≡◌, true};
-ghost use Rattle.records.specs.Forms.{is_size};
+ghost use Rattle.catalogue.specs.Forms.{is_size};
 ghost use Rattle.price_cert.specs.Best.{improved, is_better, is_kind_better, is_nearer, is_still_open, leads_higher, nearest_row, taken, ArePricesSmall};
 
 use crate::row::{Row, row_at};

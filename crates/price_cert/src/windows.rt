@@ -8,7 +8,7 @@
 
 ghost use Rattle.std.specs.Prelude.{◌≡◌, ◌+◌, ◌<◌, ◌≤◌, ◌++◌, List, All, true, length};
 ghost use Rattle.payload_graph.specs.Net.{edges_from, fulls, window};
-ghost use Rattle.records.specs.Forms.{is_size};
+ghost use Rattle.catalogue.specs.Forms.{is_size};
 ghost use Rattle.payload_graph.specs.Soundness.{openings};
 ghost use Rattle.payload_graph.specs.declared.door.Door.{Door};
 ghost use Rattle.payload_graph.specs.declared.edge.Edge.{Edge};

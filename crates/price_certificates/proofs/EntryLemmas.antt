@@ -15,8 +15,8 @@ use Rattle.std.proofs.lemmas.List.Sums.{passes_at_first, split_at_first}
 use Rattle.std.proofs.lemmas.Option.{slice_get-get_or}
 use Rattle.std.proofs.lemmas.Slice.Eq.{bytes_eq-Decides}
 use Rattle.std.proofs.lemmas.Str.Parse.{digits_value_short}
-use Rattle.records.specs.Versions.{version_of, components_of}
-use Rattle.records.specs.declared.content.Release.{Release}
+use Rattle.catalogue.specs.Versions.{version_of, components_of}
+use Rattle.catalogue.specs.declared.content.Release.{Release}
 use Rattle.payload_graph.specs.declared.edge.Kind.TheVariants.{Full, Differ}
 use Rattle.price_cert.specs.declared.row.Row.{Row}
 use Rattle.price_cert.specs.declared.row.Row.TheVariants.{Nothing, End, Price}

@@ -1,6 +1,6 @@
 -- A reading has a row for each release.
 use Rattle.std.proofs.Common.{◌≡◌, ℕ, ◌+◌, suc, List, [], ◌∷◌, length, Option, None, Some, Result, Ok, Err, refl, sym, ap, ◌∙◌}
-use Rattle.records.specs.declared.content.Release.{Release}
+use Rattle.catalogue.specs.declared.content.Release.{Release}
 use Rattle.price_cert.specs.declared.row.Row.{Row}
 use Rattle.price_certificates.specs.Reading.{line_split, on_line, read_row, read_rows, rows_after, with_row}
 use Rattle.price_certificates.specs.declared.fault.Fault.{Fault}

@@ -12,12 +12,12 @@ use Rattle.std.proofs.lemmas.Fmt.{decimal_digit, decimal_nonempty, digits_decima
 use Rattle.std.proofs.lemmas.List.Sums.{position_or_len_is}
 use Rattle.std.proofs.lemmas.Option.{slice_get-get_or}
 use Rattle.std.proofs.lemmas.Slice.Eq.{bytes_eq-Decides}
-use Rattle.records.specs.VersionLaws.{BelowIsIrreflexive}
-use Rattle.records.specs.Versions.{is_below, version_of}
+use Rattle.catalogue.specs.VersionLaws.{BelowIsIrreflexive}
+use Rattle.catalogue.specs.Versions.{is_below, version_of}
 use Rattle.values.specs.Ordered.{ascend}
-use Rattle.records.specs.Validity.{is_valid_release, is_release_below}
-use Rattle.records.specs.declared.content.Cohort.{Cohort}
-use Rattle.records.specs.declared.content.Release.{Release}
+use Rattle.catalogue.specs.Validity.{is_valid_release, is_release_below}
+use Rattle.catalogue.specs.declared.content.Cohort.{Cohort}
+use Rattle.catalogue.specs.declared.content.Release.{Release}
 use Rattle.price_certificates.specs.Forms.{has_leading_zero, is_plain, is_version, number_below}
 use Rattle.price_certificates.specs.Reading.{is_spelled}
 use Rattle.price_certificates.specs.Strings.{spelled_at}

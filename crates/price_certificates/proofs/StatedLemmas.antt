@@ -6,9 +6,9 @@ use Rattle.std.specs.Option.{is_some, option_and_then, option_map}
 use Rattle.std.specs.Str.{bytes_eq}
 use Rattle.std.proofs.lemmas.Bool.{and_from, false_from_ne_true}
 use Rattle.std.proofs.lemmas.Slice.Eq.{bytes_eq-Decides}
-use Rattle.records.specs.VersionLaws.{BelowIsIrreflexive}
-use Rattle.records.specs.declared.content.Cohort.{Cohort}
-use Rattle.records.specs.declared.content.Release.{Release}
+use Rattle.catalogue.specs.VersionLaws.{BelowIsIrreflexive}
+use Rattle.catalogue.specs.declared.content.Cohort.{Cohort}
+use Rattle.catalogue.specs.declared.content.Release.{Release}
 use Rattle.payload_graph.specs.declared.edge.Kind.{Kind}
 use Rattle.payload_graph.specs.declared.edge.Kind.TheVariants.{Full, Differ}
 use Rattle.price_cert.specs.declared.row.Row.{Row}

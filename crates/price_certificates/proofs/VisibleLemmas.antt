@@ -16,8 +16,8 @@ use Rattle.std.proofs.lemmas.Str.{IsUtf8-from_ascii, is_utf8-from_IsUtf8}
 use Rattle.std.proofs.lemmas.Str.Ascii.{IsAscii-cons, IsAscii-nil}
 use Rattle.hex.specs.Hex.{encode_lower, encode_with, lower_digits}
 use Rattle.values.proofs.InsertedLemmas.{list_all-weaker}
-use Rattle.records.specs.Versions.{components_of, has_leading_zero, is_number, max_components, number_in, number_of, numbers_of, padded, parts_of, prepended, version_of}
-use Rattle.records.specs.Forms.{is_app_id, is_cohort_byte, is_cohort_name}
+use Rattle.catalogue.specs.Versions.{components_of, has_leading_zero, is_number, max_components, number_in, number_of, numbers_of, padded, parts_of, prepended, version_of}
+use Rattle.catalogue.specs.Forms.{is_app_id, is_cohort_byte, is_cohort_name}
 use Rattle.price_certificates.specs.Forms.{is_space}
 use Rattle.price_certificates.specs.Reading.{is_feed}
 use Rattle.price_certificates.proofs.NumberLemmas.{numerals}

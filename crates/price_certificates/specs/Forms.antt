@@ -5,8 +5,8 @@ use Rattle.std.specs.List.{after_first, before_first, list_all}
 use Rattle.std.specs.Option.{is_some}
 use Rattle.std.specs.Str.{bytes_eq}
 use Rattle.std.specs.Str.Parse.{digits_value}
-use Rattle.records.specs.Forms.{has_length}
-use Rattle.records.specs.Versions.{version_of}
+use Rattle.catalogue.specs.Forms.{has_length}
+use Rattle.catalogue.specs.Versions.{version_of}
 
 -- a space
 abbrev pub is_space : ℕ → Bool

@@ -3,10 +3,10 @@ use Rattle.std.specs.Prelude.{ℕ, ◌&&◌, Bool, if◌then◌else◌, codes, d
 use Rattle.std.specs.Option.{is_some}
 use Rattle.std.specs.Str.{bytes_eq, is_utf8}
 use Rattle.hex.specs.Hex.{encode_lower}
-use Rattle.records.specs.Forms.{hash_of, is_app_id, is_cohort_name}
-use Rattle.records.specs.declared.content.App.{App}
-use Rattle.records.specs.declared.content.Cohort.{Cohort}
-use Rattle.records.specs.declared.content.Release.{Release}
+use Rattle.catalogue.specs.Forms.{hash_of, is_app_id, is_cohort_name}
+use Rattle.catalogue.specs.declared.content.App.{App}
+use Rattle.catalogue.specs.declared.content.Cohort.{Cohort}
+use Rattle.catalogue.specs.declared.content.Release.{Release}
 use Rattle.cohorts.specs.declared.track.Lane.{Lane}
 use Rattle.cohorts.specs.declared.track.Lane.TheVariants as lane
 use Rattle.payload_graph.specs.declared.payload.TrackKey.{TrackKey}

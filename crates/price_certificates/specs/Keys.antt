@@ -1,8 +1,8 @@
 -- How the key of a certificate is read: its first five lines, by the names of a catalogue.
 use Rattle.std.specs.Prelude.{◌≡◌, ℕ, Bool, if◌then◌else◌, codes, List, Option, None, Some, position, Result, Ok, Err}
 use Rattle.std.specs.Str.{bytes_eq}
-use Rattle.records.specs.Lookups.{cohorts_at, is_cohort}
-use Rattle.records.specs.declared.content.App.{App}
+use Rattle.catalogue.specs.Lookups.{cohorts_at, is_cohort}
+use Rattle.catalogue.specs.declared.content.App.{App}
 use Rattle.cohorts.specs.declared.pin.Pin.TheVariants as pin
 use Rattle.cohorts.specs.declared.track.Lane.{Lane}
 use Rattle.cohorts.specs.declared.track.Lane.TheVariants as lane

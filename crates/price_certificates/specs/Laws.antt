@@ -1,10 +1,10 @@
 -- What holds of all certificates.
 use Rattle.std.specs.Prelude.{◌≡◌, ℕ, ◌<◌, ⊤, List, length, MatchOption, Ok, Some}
 use Rattle.std.specs.List.{AllByRecursion}
-use Rattle.records.specs.Validity.{IsValid}
-use Rattle.records.specs.declared.content.App.{App}
-use Rattle.records.specs.declared.content.Cohort.{Cohort}
-use Rattle.records.specs.declared.content.Release.{Release}
+use Rattle.catalogue.specs.Validity.{IsValid}
+use Rattle.catalogue.specs.declared.content.App.{App}
+use Rattle.catalogue.specs.declared.content.Cohort.{Cohort}
+use Rattle.catalogue.specs.declared.content.Release.{Release}
 use Rattle.payload_graph.specs.declared.payload.TrackKey.{TrackKey}
 use Rattle.payload_graph.specs.Net.{Net, net_among}
 use Rattle.price_cert.specs.declared.row.Prices.{Prices}

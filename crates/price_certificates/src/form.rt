@@ -6,7 +6,7 @@ ghost use Rattle.std.specs.Char.{is_ascii_digit};
 ghost use Rattle.std.specs.List.{list_all};
 ghost use Rattle.price_certificates.specs.Forms.{first_of, has_leading_zero, is_either, is_plain, is_version, number_below, rest_of};
 
-use records::Version;
+use catalogue::Version;
 
 /// What is before the first space of a line, and what is after it; nothing if it has none.
 pub(crate) fn split_first(line: &str) -> (&str, &str)

@@ -10,10 +10,10 @@ ghost use Rattle.price_certificates.specs.Reading.{heading_flaw};
 use crate::fault::Flaw;
 use crate::form::{is_either, is_version, number_below, split_first};
 use crate::lines::as_string;
+use catalogue::form::{hash_of, is_app_id, is_cohort_name};
 use catalogue::{App, Cohort, Release};
 use cohorts::Lane;
 use payload_graph::TrackKey;
-use records::form::{hash_of, is_app_id, is_cohort_name};
 use std::alloc::{AllocError, Global};
 use values::Text;
 

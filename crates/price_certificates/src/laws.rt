@@ -12,5 +12,5 @@ pub fn read_is_written()
 pub fn written_is_read()
     ensures { WrittenIsRead }
 {
-    records::version_laws::order();
+    catalogue::version_laws::order();
 }

@@ -4,10 +4,10 @@
 ghost use Rattle.std.specs.Prelude.{◌≡◌, ◌<◌, IfSome, Some, length};
 ghost use Rattle.payload_graph.specs.Net.{net_among};
 ghost use Rattle.payload_graph.specs.Places.{IsWithin};
-ghost use Rattle.records.specs.Lookups.{releases_at};
+ghost use Rattle.catalogue.specs.Lookups.{releases_at};
 
 use crate::outcomes::{push_key, push_outcome, push_written};
-use catalogue::Catalogue;
+use catalogue::{Catalogue, Version};
 use cohorts::Pin;
 use fixtures::{
     catalogue_of_script, fields, graph_of, keep, key_of, push_from, push_into, push_ruled,
@@ -16,7 +16,6 @@ use fixtures::{
 use par_tables::{TrackTables, tables};
 use payload_graph::{Differentials, Graph, Payload, Place, TrackKey};
 use quotes::{Quote, quote_from};
-use records::Version;
 use solver::solve;
 use std::alloc::{AllocError, Global};
 

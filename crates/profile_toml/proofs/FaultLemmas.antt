@@ -4,7 +4,7 @@ use Rattle.std.specs.List.{list_any}
 use Rattle.std.specs.Option.{ok_or, option_map_or}
 use Rattle.toml.specs.Data.{Items, no_items, item, Members, as_bool, as_str}
 use Rattle.catalogue.specs.declared.edit.Edit.{Edit}
-use Rattle.records.specs.declared.mirror.Mirror.{Mirror}
+use Rattle.catalogue.specs.declared.mirror.Mirror.{Mirror}
 use Rattle.profile_tables.specs.Fields.{◌>>=◌, as_natural, required}
 use Rattle.profile_tables.specs.Laws.{IsOneLine}
 use Rattle.profile_tables.specs.Lists.{element}

@@ -4,9 +4,9 @@ use Rattle.std.specs.List.{count_by, list_all, list_any}
 use Rattle.std.specs.Option.{ok_or, option_map_or}
 use Rattle.std.proofs.lemmas.List.Sums.{sum_by-append}
 use Rattle.std.proofs.lemmas.Slice.Eq.{bytes_eq-Decides}
-use Rattle.records.specs.Mirrors.{is_mirror}
+use Rattle.catalogue.specs.Mirrors.{is_mirror}
 use Rattle.catalogue.specs.declared.edit.Edit.{Edit}
-use Rattle.records.specs.declared.mirror.Mirror.{Mirror}
+use Rattle.catalogue.specs.declared.mirror.Mirror.{Mirror}
 use Rattle.profile_tables.specs.Fields.{◌>>=◌}
 use Rattle.profile_tables.specs.Tables.{document}
 use Rattle.profile_toml.specs.Apps.{edits_of}

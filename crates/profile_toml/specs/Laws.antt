@@ -2,10 +2,10 @@
 -- profile.
 use Rattle.std.specs.Prelude.{◌≡◌, ℕ, ◌≤◌, List, length, true, Ok, Err}
 use Rattle.std.specs.List.{list_all}
-use Rattle.records.specs.Mirrors.{is_mirror}
+use Rattle.catalogue.specs.Mirrors.{is_mirror}
 use Rattle.values.specs.Lists.{IsOnce}
 use Rattle.catalogue.specs.declared.edit.Edit.{Edit}
-use Rattle.records.specs.declared.mirror.Mirror.{Mirror}
+use Rattle.catalogue.specs.declared.mirror.Mirror.{Mirror}
 use Rattle.profile_tables.specs.Laws.{IsOneLine}
 use Rattle.profile_toml.specs.FaultStrings.{fault_string}
 use Rattle.profile_toml.specs.Mirrors.{is_named, max_mirrors}

@@ -5,8 +5,8 @@ use Rattle.std.specs.List.{list_any}
 use Rattle.std.specs.Option.{option_map_or}
 use Rattle.std.specs.Str.{bytes_eq}
 use Rattle.toml.specs.Data.{as_str}
-use Rattle.records.specs.Mirrors.{is_mirror}
-use Rattle.records.specs.declared.mirror.Mirror.{Mirror}
+use Rattle.catalogue.specs.Mirrors.{is_mirror}
+use Rattle.catalogue.specs.declared.mirror.Mirror.{Mirror}
 use Rattle.profile_tables.specs.Fields.{◌>>=◌, as_natural, known, required}
 use Rattle.profile_tables.specs.Tables.{PlacedTable}
 use Rattle.profile_tables.specs.declared.path.BadEntry.{BadEntry}

@@ -1,11 +1,11 @@
 -- The tables of a profile nest less deep than a TOML document may.
 use Rattle.std.proofs.Common.{◌≡◌, ℕ, ◌+◌, ◌≤◌, Bool, true, false, List, [], ◌∷◌, map, Option, Some, None, refl, arith}
 use Rattle.std.specs.List.{AllByRecursion}
-use Rattle.records.specs.declared.content.App.{App}
-use Rattle.records.specs.declared.content.Cohort.{Cohort}
-use Rattle.records.specs.declared.content.Diff.{Diff}
-use Rattle.records.specs.declared.content.Release.{Release}
-use Rattle.records.specs.declared.mirror.Mirror.{Mirror}
+use Rattle.catalogue.specs.declared.content.App.{App}
+use Rattle.catalogue.specs.declared.content.Cohort.{Cohort}
+use Rattle.catalogue.specs.declared.content.Diff.{Diff}
+use Rattle.catalogue.specs.declared.content.Release.{Release}
+use Rattle.catalogue.specs.declared.mirror.Mirror.{Mirror}
 use Rattle.toml.specs.Data.{Members, items_depth, members_depth}
 use Rattle.profile_writer.proofs.KeyLemmas.{members_depth-filled_table, value_depth}
 use Rattle.profile_writer.specs.Fields.{app_fields, app_table, cohort_fields, cohort_table, diff_fields, diff_table, floor_given, mirror_fields, mirror_table, profile_fields, profile_table, release_fields, release_table, share_given}

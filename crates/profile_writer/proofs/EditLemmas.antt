@@ -8,14 +8,14 @@ use Rattle.std.proofs.lemmas.Slice.Eq.{bytes_eq-Decides}
 use Rattle.catalogue.specs.declared.edit.Edit.{Edit}
 use Rattle.catalogue.specs.declared.edit.Edit.TheVariants as edit
 use Rattle.catalogue_laws.specs.Contents.{default_name, edit_of_cohort, edit_of_diff, edits_of_app, edits_of_content, edits_of_release, edits_of_settings, spelling_of}
-use Rattle.records.specs.Limits.{max_share}
-use Rattle.records.specs.Lookups.{is_cohort}
-use Rattle.records.specs.Validity.{IsValidApp}
-use Rattle.records.specs.declared.content.App.{App}
-use Rattle.records.specs.declared.content.Cohort.{Cohort}
-use Rattle.records.specs.declared.content.Diff.{Diff}
-use Rattle.records.specs.declared.content.Release.{Release}
-use Rattle.records.specs.Versions.{printed, zero_version}
+use Rattle.catalogue.specs.Limits.{max_share}
+use Rattle.catalogue.specs.Lookups.{is_cohort}
+use Rattle.catalogue.specs.Validity.{IsValidApp}
+use Rattle.catalogue.specs.declared.content.App.{App}
+use Rattle.catalogue.specs.declared.content.Cohort.{Cohort}
+use Rattle.catalogue.specs.declared.content.Diff.{Diff}
+use Rattle.catalogue.specs.declared.content.Release.{Release}
+use Rattle.catalogue.specs.Versions.{printed, zero_version}
 use Rattle.values.proofs.SplitLemmas.{list_any-before, split_next}
 use Rattle.values.specs.Lists.{IsOnce}
 use Rattle.profile_toml.specs.Apps.{app_edits, edits_of}

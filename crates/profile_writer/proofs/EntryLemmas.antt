@@ -2,9 +2,9 @@
 use Rattle.std.proofs.Common.{◌≡◌, ℕ, Bool, true, false, List, codes, unwrap_or, Result, Ok, refl}
 use Rattle.hex.specs.Hex.{encode_lower}
 use Rattle.catalogue_laws.specs.Contents.{spelling_of}
-use Rattle.records.specs.declared.content.Diff.{Diff}
-use Rattle.records.specs.declared.content.Release.{Release}
-use Rattle.records.specs.declared.mirror.Mirror.{Mirror}
+use Rattle.catalogue.specs.declared.content.Diff.{Diff}
+use Rattle.catalogue.specs.declared.content.Release.{Release}
+use Rattle.catalogue.specs.declared.mirror.Mirror.{Mirror}
 use Rattle.toml.specs.Data.{Members, get_member}
 use Rattle.profile_tables.specs.Fields.{known}
 use Rattle.profile_tables.specs.Tables.{PlacedTable, table_at}

@@ -4,8 +4,8 @@ use Rattle.std.specs.List.{list_all, list_any}
 use Rattle.std.proofs.lemmas.Bool.{and_parts, or_from}
 use Rattle.std.proofs.lemmas.Bool.Decides.{nat_tests}
 use Rattle.std.proofs.lemmas.Slice.Eq.{bytes_eq-Decides}
-use Rattle.records.specs.Mirrors.{is_mirror}
-use Rattle.records.specs.declared.mirror.Mirror.{Mirror}
+use Rattle.catalogue.specs.Mirrors.{is_mirror}
+use Rattle.catalogue.specs.declared.mirror.Mirror.{Mirror}
 use Rattle.values.proofs.SplitLemmas.{list_any-before, split_next}
 use Rattle.values.specs.Lists.{IsOnce}
 use Rattle.profile_toml.specs.Laws.{AreMirrors}

@@ -2,14 +2,14 @@
 use Rattle.std.proofs.Common.{◌≡◌, ℕ, ◌<◌, ◌^◌, Bool, true, nat_le, List, [], ◌∷◌, arith}
 use Rattle.std.specs.List.{AllByRecursion, list_all}
 use Rattle.std.proofs.lemmas.Bool.{and_parts, leb-true}
-use Rattle.records.specs.Forms.{is_hash, is_size}
-use Rattle.records.specs.Limits.{max_share}
-use Rattle.records.specs.Mirrors.{is_mirror, max_budget}
-use Rattle.records.specs.Validity.{is_valid_audience, is_valid_cohort, is_valid_diff, is_valid_release, is_released}
-use Rattle.records.specs.declared.content.Cohort.{Cohort}
-use Rattle.records.specs.declared.content.Diff.{Diff}
-use Rattle.records.specs.declared.content.Release.{Release}
-use Rattle.records.specs.declared.mirror.Mirror.{Mirror}
+use Rattle.catalogue.specs.Forms.{is_hash, is_size}
+use Rattle.catalogue.specs.Limits.{max_share}
+use Rattle.catalogue.specs.Mirrors.{is_mirror, max_budget}
+use Rattle.catalogue.specs.Validity.{is_valid_audience, is_valid_cohort, is_valid_diff, is_valid_release, is_released}
+use Rattle.catalogue.specs.declared.content.Cohort.{Cohort}
+use Rattle.catalogue.specs.declared.content.Diff.{Diff}
+use Rattle.catalogue.specs.declared.content.Release.{Release}
+use Rattle.catalogue.specs.declared.mirror.Mirror.{Mirror}
 
 all_from_test : {A : Type 0} (test : A → Bool) (P : A → Type 0) → ((x : A) → test x ≡ true → P x)
     → (xs : List A) → list_all test xs ≡ true → AllByRecursion P xs

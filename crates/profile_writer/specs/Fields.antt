@@ -4,14 +4,14 @@
 use Rattle.std.specs.Prelude.{ℕ, ◌==◌, List, [], ◌∷◌, codes, map, if◌then◌else◌, Option, None, Some, option_map}
 use Rattle.std.specs.Str.{bytes_eq}
 use Rattle.hex.specs.Hex.{encode_lower}
-use Rattle.records.specs.Versions.{printed, zero_version}
+use Rattle.catalogue.specs.Versions.{printed, zero_version}
 use Rattle.catalogue_laws.specs.Contents.{default_name, spelling_of}
-use Rattle.records.specs.Limits.{max_share}
-use Rattle.records.specs.declared.content.App.{App}
-use Rattle.records.specs.declared.content.Cohort.{Cohort}
-use Rattle.records.specs.declared.content.Diff.{Diff}
-use Rattle.records.specs.declared.content.Release.{Release}
-use Rattle.records.specs.declared.mirror.Mirror.{Mirror}
+use Rattle.catalogue.specs.Limits.{max_share}
+use Rattle.catalogue.specs.declared.content.App.{App}
+use Rattle.catalogue.specs.declared.content.Cohort.{Cohort}
+use Rattle.catalogue.specs.declared.content.Diff.{Diff}
+use Rattle.catalogue.specs.declared.content.Release.{Release}
+use Rattle.catalogue.specs.declared.mirror.Mirror.{Mirror}
 use Rattle.toml.specs.Data.{Members}
 use Rattle.profile_writer.specs.Tables.{Field, flag, natural, optional_natural, optional_string, optional_list, filled_table, tables, given_string}
 

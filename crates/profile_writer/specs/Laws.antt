@@ -4,8 +4,8 @@ use Rattle.catalogue.specs.Batches.{outcome}
 use Rattle.catalogue.specs.declared.edit.Edit.{Edit}
 use Rattle.profile_toml.specs.Reading.{profile_of_bytes}
 use Rattle.profile_writer.specs.Profiles.{IsProfileFile, IsReadAs}
-use Rattle.records.specs.declared.content.App.{App}
-use Rattle.records.specs.declared.mirror.Mirror.{Mirror}
+use Rattle.catalogue.specs.declared.content.App.{App}
+use Rattle.catalogue.specs.declared.mirror.Mirror.{Mirror}
 
 -- a content with its mirrors is written in one way
 abbrev pub ProfilesAreWrittenInOneWay : Type 0

@@ -5,8 +5,8 @@ use Rattle.catalogue.specs.Batches.{outcome}
 use Rattle.catalogue_laws.specs.Contents.{edits_of_content}
 use Rattle.profile_toml.specs.Reading.{profile_of_bytes}
 use Rattle.profile_writer.specs.Fields.{profile_table}
-use Rattle.records.specs.declared.content.App.{App}
-use Rattle.records.specs.declared.mirror.Mirror.{Mirror}
+use Rattle.catalogue.specs.declared.content.App.{App}
+use Rattle.catalogue.specs.declared.mirror.Mirror.{Mirror}
 
 -- rule: Bytes of a profile
 -- the bytes are the TOML document of the profile's tables, as the crate `toml` prints it: a key a line,

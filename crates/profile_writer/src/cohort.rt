@@ -3,7 +3,7 @@
 ghost use Rattle.std.specs.Prelude.{◌≡◌, ◌<◌, ◌^◌, true, codes, map, option_map, IfOk, OnOk};
 ghost use Rattle.std.specs.List.{AllByRecursion};
 ghost use Rattle.catalogue_laws.specs.Contents.{spelling_of};
-ghost use Rattle.records.specs.Validity.{is_release_below};
+ghost use Rattle.catalogue.specs.Validity.{is_release_below};
 ghost use Rattle.toml.specs.View.{table_view};
 ghost use Rattle.values.specs.Ordered.{ascend};
 ghost use Rattle.profile_writer.specs.Fields.{cohort_table, share_given};
@@ -12,8 +12,7 @@ ghost use Rattle.profile_writer.specs.Writers.{filled};
 
 use crate::release::spelling;
 use crate::table::TableWriter;
-use catalogue::{Cohort, Release};
-use records::Version;
+use catalogue::{Cohort, Release, Version};
 use std::alloc::{AllocError, Global};
 use toml::Table;
 

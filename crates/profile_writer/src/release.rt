@@ -3,7 +3,7 @@
 ghost use Rattle.std.specs.Prelude.{◌≡◌, ◌<◌, ◌^◌, true, codes, map, option_map, IfOk, OnOk};
 ghost use Rattle.std.specs.List.{AllByRecursion};
 ghost use Rattle.catalogue_laws.specs.Contents.{spelling_of};
-ghost use Rattle.records.specs.Validity.{is_release_below};
+ghost use Rattle.catalogue.specs.Validity.{is_release_below};
 ghost use Rattle.toml.specs.View.{table_view};
 ghost use Rattle.values.specs.Ordered.{ascend};
 ghost use Rattle.profile_writer.specs.Fields.{diff_table, floor_given, release_table};
@@ -11,8 +11,7 @@ ghost use Rattle.profile_writer.specs.Tables.{optional_string, with_key};
 ghost use Rattle.profile_writer.specs.Writers.{filled};
 
 use crate::table::TableWriter;
-use catalogue::{Diff, Release};
-use records::{Version, lookup};
+use catalogue::{Diff, Release, Version, lookup};
 use std::alloc::{AllocError, Global};
 use toml::Table;
 use values::Shared;

@@ -2,10 +2,10 @@
 use Rattle.std.proofs.Common.{◌≡◌, ℕ, zero, suc, ◌+◌, ◌<◌, ◌≤◌, ◌⊎◌, inl, inr, ltb, List, length, Option, None, Some, refl, sym, ap, ◌∙◌, subst, arith}
 use Rattle.std.specs.Option.{option_map_or}
 use Rattle.std.proofs.lemmas.Bool.{cases_lt, cond_both, ltb-false, ltb-true}
-use Rattle.records.specs.VersionLaws.{BelowIsIrreflexive}
-use Rattle.records.specs.Validity.{IsValidApp}
-use Rattle.records.specs.declared.content.App.{App}
-use Rattle.records.specs.declared.content.Cohort.{Cohort}
+use Rattle.catalogue.specs.VersionLaws.{BelowIsIrreflexive}
+use Rattle.catalogue.specs.Validity.{IsValidApp}
+use Rattle.catalogue.specs.declared.content.App.{App}
+use Rattle.catalogue.specs.declared.content.Cohort.{Cohort}
 use Rattle.payload_graph.specs.declared.payload.TrackKey.{TrackKey}
 use Rattle.payload_graph.specs.declared.place.Place.TheVariants.{At, Outside}
 use Rattle.payload_graph.specs.Laws.{DiffersArePermitted, FullsArePermitted}

@@ -7,13 +7,13 @@ use Rattle.std.proofs.lemmas.Bool.{and_from, and_parts, false_from_ne_true, fals
 use Rattle.std.proofs.lemmas.List.Sums.{position_or_len_is}
 use Rattle.std.proofs.lemmas.Option.{get_or_from_slice_get, slice_get_within}
 use Rattle.std.proofs.lemmas.Slice.Eq.{bytes_eq-Decides}
-use Rattle.records.specs.VersionLaws.{BelowIsIrreflexive}
-use Rattle.records.specs.Versions.{is_below}
+use Rattle.catalogue.specs.VersionLaws.{BelowIsIrreflexive}
+use Rattle.catalogue.specs.Versions.{is_below}
 use Rattle.values.specs.Ordered.{ascend}
-use Rattle.records.specs.Lookups.{is_diff, is_release}
-use Rattle.records.specs.Validity.{is_diff_before}
-use Rattle.records.specs.declared.content.Diff.{Diff}
-use Rattle.records.specs.declared.content.Release.{Release}
+use Rattle.catalogue.specs.Lookups.{is_diff, is_release}
+use Rattle.catalogue.specs.Validity.{is_diff_before}
+use Rattle.catalogue.specs.declared.content.Diff.{Diff}
+use Rattle.catalogue.specs.declared.content.Release.{Release}
 use Rattle.payload_graph.specs.Chains.{index_of}
 use Rattle.payload_graph.specs.declared.payload.Payload.TheVariants.{Differ}
 use Rattle.payload_graph.specs.declared.edge.Kind.TheVariants as kind

@@ -4,14 +4,14 @@ use Rattle.std.specs.List.{All, slice_get}
 use Rattle.std.specs.Option.{option_and_then, option_map_or, IfSome}
 use Rattle.std.proofs.lemmas.Bool.{and_parts}
 use Rattle.std.proofs.lemmas.List.Sums.{AllPass-from_list_all}
-use Rattle.records.specs.VersionLaws.{BelowIsIrreflexive}
+use Rattle.catalogue.specs.VersionLaws.{BelowIsIrreflexive}
 use Rattle.values.specs.Ordered.{ascend}
-use Rattle.records.specs.Forms.{is_hash, is_package_name, is_size}
-use Rattle.records.specs.Lookups.{cohorts_at, releases_at}
-use Rattle.records.specs.Validity.{IsValid, is_valid_audience, is_valid_release, is_release_below, spells}
-use Rattle.records.specs.declared.content.App.{App}
-use Rattle.records.specs.declared.content.Cohort.{Cohort}
-use Rattle.records.specs.declared.content.Release.{Release}
+use Rattle.catalogue.specs.Forms.{is_hash, is_package_name, is_size}
+use Rattle.catalogue.specs.Lookups.{cohorts_at, releases_at}
+use Rattle.catalogue.specs.Validity.{IsValid, is_valid_audience, is_valid_release, is_release_below, spells}
+use Rattle.catalogue.specs.declared.content.App.{App}
+use Rattle.catalogue.specs.declared.content.Cohort.{Cohort}
+use Rattle.catalogue.specs.declared.content.Release.{Release}
 use Rattle.cohorts.specs.Offers.{track_target}
 use Rattle.payload_graph.specs.declared.payload.TrackKey.{TrackKey}
 use Rattle.payload_graph.specs.declared.place.Place.TheVariants.{Outside}

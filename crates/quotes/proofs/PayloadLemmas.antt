@@ -6,12 +6,12 @@ use Rattle.std.proofs.lemmas.Bool.{and_parts}
 use Rattle.std.proofs.lemmas.List.Elements.{Contains-append_cases, Contains-append_left, Contains-append_right}
 use Rattle.std.proofs.lemmas.List.Folds.{find_at}
 use Rattle.std.proofs.lemmas.Option.{slice_get_within}
-use Rattle.records.specs.Lookups.{is_release}
-use Rattle.records.specs.Validity.{IsValidApp}
-use Rattle.records.specs.declared.content.App.{App}
-use Rattle.records.specs.declared.content.Cohort.{Cohort}
-use Rattle.records.specs.declared.content.Diff.{Diff}
-use Rattle.records.specs.declared.content.Release.{Release}
+use Rattle.catalogue.specs.Lookups.{is_release}
+use Rattle.catalogue.specs.Validity.{IsValidApp}
+use Rattle.catalogue.specs.declared.content.App.{App}
+use Rattle.catalogue.specs.declared.content.Cohort.{Cohort}
+use Rattle.catalogue.specs.declared.content.Diff.{Diff}
+use Rattle.catalogue.specs.declared.content.Release.{Release}
 use Rattle.payload_graph.specs.Chains.{bytes_of, destination_of, index_of}
 use Rattle.payload_graph.specs.Permitted.{end_of, is_offered_at, leads_up, permits, permits_differ, permits_from, permits_full, permits_in, starts_at}
 use Rattle.payload_graph.specs.Places.{version_at}
@@ -24,7 +24,7 @@ use Rattle.payload_graph.specs.Laws.{DiffersArePermitted, FullsArePermitted, IsT
 use Rattle.payload_graph.specs.Net.{Net, differs_of, door_of, doors_of, edge_of, edges_from, full, fulls, leaves, net_of, window}
 use Rattle.payload_graph.specs.declared.door.Door.{Door}
 use Rattle.payload_graph.specs.declared.edge.Edge.{Edge}
-use Rattle.records.specs.VersionLaws.{BelowIsIrreflexive}
+use Rattle.catalogue.specs.VersionLaws.{BelowIsIrreflexive}
 use Rattle.quotes.specs.Quotes.{kind_of, payload_named}
 use Rattle.quotes.proofs.NamedLemmas.{HasEnds, payload_named-differ}
 use Rattle.quotes.proofs.MemberLemmas.{ComesFrom-map, Contains-filter, Contains-filtered, Contains-map, Contains-numbered, IsThere, IsThere-test, passes-filtered, passes-found, slice_get-numbered}

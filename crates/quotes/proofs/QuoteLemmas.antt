@@ -6,11 +6,11 @@ use Rattle.std.proofs.lemmas.Bool.{and_parts, eq-eqb, eqb-true, false≢true, or
 use Rattle.std.proofs.lemmas.List.Elements.{All-contains}
 use Rattle.std.proofs.lemmas.List.Folds.{Any-from_list_any}
 use Rattle.std.proofs.lemmas.List.Sums.{AllPass-from_list_all}
-use Rattle.records.specs.VersionLaws.{BelowIsIrreflexive}
-use Rattle.records.specs.Validity.{IsValidApp}
-use Rattle.records.specs.declared.content.App.{App}
-use Rattle.records.specs.declared.content.Cohort.{Cohort}
-use Rattle.records.specs.declared.content.Release.{Release}
+use Rattle.catalogue.specs.VersionLaws.{BelowIsIrreflexive}
+use Rattle.catalogue.specs.Validity.{IsValidApp}
+use Rattle.catalogue.specs.declared.content.App.{App}
+use Rattle.catalogue.specs.declared.content.Cohort.{Cohort}
+use Rattle.catalogue.specs.declared.content.Release.{Release}
 use Rattle.payload_graph.specs.Chains.{IsAtTarget, destination_of, cohort_target}
 use Rattle.payload_graph.specs.declared.payload.Payload.{Payload}
 use Rattle.payload_graph.specs.declared.payload.TrackKey.{TrackKey}

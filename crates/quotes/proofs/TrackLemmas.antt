@@ -8,11 +8,11 @@ use Rattle.std.proofs.lemmas.List.FromFn.{length-enumerate_from}
 use Rattle.std.proofs.lemmas.List.Quantifiers.{position-Some}
 use Rattle.std.proofs.lemmas.Option.{cond_some, slice_get-get_or}
 use Rattle.std.proofs.lemmas.Slice.Eq.{bytes_eq-Decides}
-use Rattle.records.specs.Lookups.{is_release}
-use Rattle.records.specs.Validity.{IsValidApp}
-use Rattle.records.specs.declared.content.App.{App}
-use Rattle.records.specs.declared.content.Cohort.{Cohort}
-use Rattle.records.specs.declared.content.Release.{Release}
+use Rattle.catalogue.specs.Lookups.{is_release}
+use Rattle.catalogue.specs.Validity.{IsValidApp}
+use Rattle.catalogue.specs.declared.content.App.{App}
+use Rattle.catalogue.specs.declared.content.Cohort.{Cohort}
+use Rattle.catalogue.specs.declared.content.Release.{Release}
 use Rattle.cohorts.specs.Offers.{track_target}
 use Rattle.payload_graph.specs.Chains.{cohort_target}
 use Rattle.payload_graph.specs.declared.payload.TrackKey.{TrackKey}

@@ -2,9 +2,9 @@
 -- least sum by a full package does. No chain is looked at. This project's profile.
 use Rattle.std.specs.Prelude.{◌≡◌, ℕ, zero, suc, if◌then◌else◌, List, length, nat_lt, slice_get, Option, None, Some}
 use Rattle.std.specs.Option.{option_map_or}
-use Rattle.records.specs.Validity.{IsValidApp}
-use Rattle.records.specs.declared.content.App.{App}
-use Rattle.records.specs.declared.content.Cohort.{Cohort}
+use Rattle.catalogue.specs.Validity.{IsValidApp}
+use Rattle.catalogue.specs.declared.content.App.{App}
+use Rattle.catalogue.specs.declared.content.Cohort.{Cohort}
 use Rattle.cohorts.specs.Offers.{track_target}
 use Rattle.payload_graph.specs.Places.{IsWithin}
 use Rattle.payload_graph.specs.declared.payload.TrackKey.{TrackKey}

@@ -3,9 +3,9 @@
 use Rattle.std.specs.Prelude.{◌≡◌, ℕ, ◌+◌, ◌<◌, ◌≤◌, ◌&&◌, ◌||◌, ◌⊎◌, not, Bool, false, if◌then◌else◌, List, length, slice_get, IfSome, Option, None, Some, option_and_then, option_map}
 use Rattle.std.specs.List.{list_any, AllWithin}
 use Rattle.std.specs.Option.{option_map_or}
-use Rattle.records.specs.Versions.{is_below}
-use Rattle.records.specs.declared.content.Cohort.{Cohort}
-use Rattle.records.specs.declared.content.Release.{Release}
+use Rattle.catalogue.specs.Versions.{is_below}
+use Rattle.catalogue.specs.declared.content.Cohort.{Cohort}
+use Rattle.catalogue.specs.declared.content.Release.{Release}
 use Rattle.payload_graph.specs.Permitted.{is_offered_at, leads_down, permits_full, rolls_back}
 use Rattle.payload_graph.specs.declared.payload.Payload.TheVariants.{Differ, Full}
 use Rattle.payload_graph.specs.declared.payload.TrackKey.{TrackKey}

@@ -1,10 +1,10 @@
 -- What the clients of a track at a place are offered: the first payload of a chain of the least sum.
 use Rattle.std.specs.Prelude.{◌≡◌, ℕ, ◌+◌, ◌==◌, ◌&&◌, ◌||◌, Bool, true, List, nat_lt, slice_get, Option, Some, IfSome, option_and_then, option_map, position}
 use Rattle.std.specs.Option.{option_map_or}
-use Rattle.records.specs.Lookups.{is_diff}
-use Rattle.records.specs.declared.content.App.{App}
-use Rattle.records.specs.declared.content.Diff.{Diff}
-use Rattle.records.specs.declared.content.Release.{Release}
+use Rattle.catalogue.specs.Lookups.{is_diff}
+use Rattle.catalogue.specs.declared.content.App.{App}
+use Rattle.catalogue.specs.declared.content.Diff.{Diff}
+use Rattle.catalogue.specs.declared.content.Release.{Release}
 use Rattle.payload_graph.specs.Chains.{IsAtTarget, bytes_of, destination_of}
 use Rattle.payload_graph.specs.Permitted.{permits}
 use Rattle.payload_graph.specs.declared.payload.Payload.{Payload}

@@ -8,7 +8,7 @@ ghost use Rattle.quotes.specs.Sums.{PricesAreLeastOnTracks};
 pub fn least()
     ensures { PricesAreLeastOnTracks }
 {
-    records::version_laws::order();
+    catalogue::version_laws::order();
     payload_graph::laws::fulls();
     payload_graph::laws::differs();
 }
@@ -19,7 +19,7 @@ pub fn least()
 pub fn rows()
     ensures { CertifiedRowsQuote }
 {
-    records::version_laws::order();
+    catalogue::version_laws::order();
     payload_graph::laws::fulls();
     payload_graph::laws::differs();
     price_cert::laws::least();

@@ -3,18 +3,17 @@
 ghost use Rattle.std.specs.Prelude.{◌≡◌, ℕ, ◌+◌, ◌≤◌, ◌||◌, All, true, false, if◌then◌else◌, IfSome, Option, None, length, option_map};
 ghost use Rattle.std.specs.List.{AllWithin};
 ghost use Rattle.values.specs.Ordered.{ascend};
-ghost use Rattle.records.specs.Versions.{is_below};
-ghost use Rattle.records.specs.Forms.{is_size};
-ghost use Rattle.records.specs.Validity.{is_release_below};
+ghost use Rattle.catalogue.specs.Versions.{is_below};
+ghost use Rattle.catalogue.specs.Forms.{is_size};
+ghost use Rattle.catalogue.specs.Validity.{is_release_below};
 ghost use Rattle.payload_graph.specs.Permitted.{leads_down};
 ghost use Rattle.price_cert.specs.Laws.{IsSmall};
 ghost use Rattle.price_cert.specs.Rows.{price_of};
 ghost use Rattle.quotes.specs.Outside.{best_with, is_stone_above, leads_to, may_fall, rises_to, sum_into, AreSmall, IsBest, IsWindow};
 
-use catalogue::{Cohort, Release};
+use catalogue::{Cohort, Release, Version};
 use payload_graph::{TrackKey, is_offered_at, rolls_back};
 use price_cert::Row;
-use records::Version;
 
 /// A client at no release, on a track with a target.
 #[derive(Drop)]
@@ -128,7 +127,7 @@ fn count_up_to(releases: &[Release], version: &Version) -> usize
     ensures before { AllWithin (λ release. is_below version.now release.version ≡ false) releases.now 0 result }
     ensures behind { AllWithin (λ release. is_below version.now release.version ≡ true) releases.now result (length releases.now) }
 {
-    records::version_laws::order();
+    catalogue::version_laws::order();
     releases.partition_point(|release| !version.is_below(&release.version))
 }
 
@@ -162,7 +161,7 @@ pub(crate) fn find_best(releases: &[Release], rows: &[Row], visitor: &Visitor<'_
     ensures { IsBest (sum_into releases.now visitor.now.cohort.now visitor.now.key.now visitor.now.target visitor.now.version rows.now)
         (length releases.now) result }
 {
-    records::version_laws::order();
+    catalogue::version_laws::order();
     let falls = visitor.may_fall();
     let Window { start, end } = find_window(releases, visitor, falls);
     let mut best = None;

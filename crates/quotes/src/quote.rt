@@ -1,7 +1,7 @@
 //! What a table says of a place.
 
 ghost use Rattle.std.specs.Prelude.{◌≡◌, ◌<◌, IfSome, Some, length, option_and_then, option_map, slice_get};
-ghost use Rattle.records.specs.Lookups.{cohorts_at, diffs_at, releases_at};
+ghost use Rattle.catalogue.specs.Lookups.{cohorts_at, diffs_at, releases_at};
 ghost use Rattle.cohorts.specs.Offers.{track_target};
 ghost use Rattle.payload_graph.specs.Places.{IsWithin};
 ghost use Rattle.payload_graph.specs.declared.place.Place.TheVariants.{At, Outside};
@@ -10,11 +10,10 @@ ghost use Rattle.quotes.specs.Outside.{best_quote, without_differentials};
 ghost use Rattle.quotes.specs.Quotes.{payload_named, row_quote, IsQuoteAmong};
 
 use crate::outside::{Best, Visitor, find_best};
-use catalogue::Catalogue;
+use catalogue::{Catalogue, Version};
 use cohorts::track_target;
 use payload_graph::{Kind, Payload, Place, TrackKey};
 use price_cert::{Certified, Row};
-use records::Version;
 
 /// What the clients of a track at a place are offered.
 #[derive(Clone, Copy, Debug, PartialEq, Eq)]
@@ -81,7 +80,7 @@ pub fn quote_at(catalogue: &Catalogue, key: &TrackKey, release: usize, table: &C
     requires release { release < length (releases_at catalogue.now key.now.app) }
     ensures { IsQuoteAmong catalogue.now key.now (At release) result }
 {
-    records::version_laws::order();
+    catalogue::version_laws::order();
     payload_graph::laws::fulls();
     payload_graph::laws::differs();
     catalogue.validity();
@@ -155,7 +154,7 @@ fn quote_by_row(
     requires table { net_among catalogue.now key.now ≡ Some table.now.net }
     ensures { IfSome result (λ quote. IsQuoteAmong catalogue.now key.now (Outside version.now) quote) }
 {
-    records::version_laws::order();
+    catalogue::version_laws::order();
     catalogue.validity();
     let release = catalogue.find_release(key.app, version)?;
     let quote = quote_at(catalogue, key, release, table);
@@ -172,7 +171,7 @@ fn quote_outside(
     requires table { net_among catalogue.now key.now ≡ Some table.now.net }
     ensures { IsQuoteAmong catalogue.now key.now (Outside version) result }
 {
-    records::version_laws::order();
+    catalogue::version_laws::order();
     payload_graph::laws::fulls();
     payload_graph::laws::differs();
     catalogue.validity();

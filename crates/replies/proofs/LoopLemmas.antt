@@ -1,8 +1,8 @@
 -- What the loops over a request's apps keep: what was made of the apps so far.
 use Rattle.std.proofs.Common.{◌≡◌, ℕ, List, Option, map, take}
 use Rattle.std.specs.List.{AllZip, zip}
-use Rattle.records.specs.declared.content.App.{App}
-use Rattle.records.specs.declared.mirror.Mirror.{Mirror}
+use Rattle.catalogue.specs.declared.content.App.{App}
+use Rattle.catalogue.specs.declared.mirror.Mirror.{Mirror}
 use Rattle.omaha_json.specs.declared.reply.AppReply.{AppReply}
 use Rattle.omaha_json.specs.declared.request.AppAsk.{AppAsk}
 use Rattle.replies.specs.Clients.{IsAssigned}

@@ -1,10 +1,10 @@
 -- Every reply is writable.
 use Rattle.std.proofs.Common.{List, map, Option, None, Some, All, ℕ, get_or}
 use Rattle.std.proofs.lemmas.List.Elements.{All-map}
-use Rattle.records.specs.declared.content.App.{App}
-use Rattle.records.specs.declared.mirror.Mirror.{Mirror}
-use Rattle.records.specs.declared.content.Diff.{Diff}
-use Rattle.records.specs.declared.content.Release.{Release}
+use Rattle.catalogue.specs.declared.content.App.{App}
+use Rattle.catalogue.specs.declared.mirror.Mirror.{Mirror}
+use Rattle.catalogue.specs.declared.content.Diff.{Diff}
+use Rattle.catalogue.specs.declared.content.Release.{Release}
 use Rattle.omaha_json.specs.ReplyWriting.{IsCheckWritable, IsStateWritable}
 use Rattle.omaha_json.specs.declared.reply.AppReply.{AppReply}
 use Rattle.omaha_json.specs.declared.request.AppAsk.{AppAsk}

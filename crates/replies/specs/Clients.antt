@@ -1,9 +1,9 @@
 -- Who asks in a request: for each of its apps that the catalogue has, a client on its track; this
 -- project's profile.
 use Rattle.std.specs.Prelude.{◌≡◌, ℕ, ◌<◌, not, Bool, IfSome, List, length, Option, option_and_then, option_map, position, slice_get}
-use Rattle.records.specs.Lookups.{cohorts_at, is_app}
-use Rattle.records.specs.declared.content.App.{App}
-use Rattle.records.specs.declared.content.Cohort.{Cohort}
+use Rattle.catalogue.specs.Lookups.{cohorts_at, is_app}
+use Rattle.catalogue.specs.declared.content.App.{App}
+use Rattle.catalogue.specs.declared.content.Cohort.{Cohort}
 use Rattle.cohorts.specs.CohortTexts.{printed}
 use Rattle.cohorts.specs.Offers.{is_any, track_target}
 use Rattle.cohorts.specs.Tracks.{cohort_at, track_of}

@@ -1,6 +1,6 @@
 -- The keys of pinned clients of a request.
 use Rattle.std.specs.Prelude.{◌≡◌, ◌≢◌, ℕ, ◌+◌, ◌<◌, ◌==◌, ◌⊎◌, if◌then◌else◌, List, [], ◌∷◌, ◌++◌, All, AllPairs, Any, Contains, IfSome, Option, None, Some, option_and_then}
-use Rattle.records.specs.declared.content.App.{App}
+use Rattle.catalogue.specs.declared.content.App.{App}
 use Rattle.cohorts.specs.Offers.{is_any}
 use Rattle.omaha_json.specs.declared.request.AppAsk.{AppAsk}
 use Rattle.par_tables.specs.Pieces.{HasTarget}

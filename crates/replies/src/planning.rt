@@ -2,7 +2,7 @@
 
 ghost use Rattle.std.specs.Prelude.{◌≡◌, ◌<◌, false, true, All, IfOk, IfSome, Some, length, option_map};
 ghost use Rattle.std.specs.List.{AllZip};
-ghost use Rattle.records.specs.Lookups.{diffs_at, releases_at};
+ghost use Rattle.catalogue.specs.Lookups.{diffs_at, releases_at};
 ghost use Rattle.cohorts.specs.Offers.{is_any};
 ghost use Rattle.payload_graph.specs.Chains.{bytes_of};
 ghost use Rattle.payload_graph.specs.Places.{IsWithin};

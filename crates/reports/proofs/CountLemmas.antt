@@ -3,8 +3,8 @@ use Rattle.std.proofs.Common.{◌≡◌, ℕ, ◌+◌, ◌<◌, ◌≤◌, List,
 use Rattle.std.specs.List.{All, sum_by}
 use Rattle.std.proofs.lemmas.List.Elements.{All-from_recursion, All-weaker}
 use Rattle.std.proofs.lemmas.List.Sums.{sum_by-le, sum_by_more_le}
-use Rattle.records.specs.Validity.{IsValid, IsValidApp}
-use Rattle.records.specs.declared.content.App.{App}
+use Rattle.catalogue.specs.Validity.{IsValid, IsValidApp}
+use Rattle.catalogue.specs.declared.content.App.{App}
 
 -- a count so far and the next one, where each app has few items
 pub few_so_far :

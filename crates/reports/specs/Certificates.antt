@@ -2,9 +2,9 @@
 -- profile.
 use Rattle.std.specs.Prelude.{◌≡◌, ⊤, ◌⊎◌, ℕ, Bool, false, not, ◌&&◌, if◌then◌else◌, List, Option, None, Some, option_and_then, option_map, position, slice_get, Result, Ok, Err}
 use Rattle.std.specs.Option.{option_map_or}
-use Rattle.records.specs.Lookups.{cohorts_at, is_app, is_cohort, releases_at}
-use Rattle.records.specs.declared.content.App.{App}
-use Rattle.records.specs.declared.content.Cohort.{Cohort}
+use Rattle.catalogue.specs.Lookups.{cohorts_at, is_app, is_cohort, releases_at}
+use Rattle.catalogue.specs.declared.content.App.{App}
+use Rattle.catalogue.specs.declared.content.Cohort.{Cohort}
 use Rattle.cohorts.specs.declared.names.TrackNames.{TrackNames}
 use Rattle.cohorts.specs.declared.pin.Pin.TheVariants as pin
 use Rattle.payload_graph.specs.declared.payload.TrackKey.{TrackKey}

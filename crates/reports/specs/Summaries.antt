@@ -1,6 +1,6 @@
 -- What is reported of an edition; this project's profile.
 use Rattle.std.specs.Prelude.{ℕ, List, ◌++◌, codes, decimal, length, sum_by}
-use Rattle.records.specs.declared.content.App.{App}
+use Rattle.catalogue.specs.declared.content.App.{App}
 use Rattle.par_tables.specs.Tables.{nets_of}
 use Rattle.par_tables.specs.Tracks.{keys_of}
 use Rattle.reports.specs.declared.counting.Counts.{Counts}

@@ -1,7 +1,7 @@
 //! Whether a certificate is valid.
 
 ghost use Rattle.std.specs.Prelude.{◌≡◌, ◌<◌, IfErr, IfOk, IfSome, Ok, Err, length};
-ghost use Rattle.records.specs.Lookups.{releases_at};
+ghost use Rattle.catalogue.specs.Lookups.{releases_at};
 ghost use Rattle.cohorts.specs.declared.pin.Pin.TheVariants as pin;
 ghost use Rattle.payload_graph.specs.Net.{net_among};
 ghost use Rattle.price_certificates.specs.Strings.{spelled_at};

@@ -17,7 +17,7 @@ use Rattle.profile_toml.specs.Reading.{script_of_bytes}
 use Rattle.profile_toml.specs.declared.fault.ProfileFault.{ProfileFault}
 use Rattle.publisher.specs.Publishing.{Publishes}
 use Rattle.publisher.specs.declared.fault.PublishError.{PublishError}
-use Rattle.records.specs.declared.mirror.Mirror.{Mirror}
+use Rattle.catalogue.specs.declared.mirror.Mirror.{Mirror}
 use Rattle.service_desks.specs.Operators.{IsCall}
 use Rattle.service_desks.specs.Raises.{Funds, IsReplyToRaise, RaisesBy, left_by as raise_left_by, raise_of}
 use Rattle.service_desks.specs.Scripts.{IsScriptReply, Performs, left_by}

@@ -9,7 +9,7 @@ use Rattle.kept_records.specs.declared.record.Kind.TheVariants as kind
 use Rattle.kept_records.specs.declared.record.Record.{Record}
 use Rattle.mirror_ledger.specs.Raising.{index_of, raise_at}
 use Rattle.profile_toml.specs.declared.fault.ProfileFault.{ProfileFault}
-use Rattle.records.specs.declared.mirror.Mirror.{Mirror}
+use Rattle.catalogue.specs.declared.mirror.Mirror.{Mirror}
 use Rattle.restarts.specs.Laws.{RecordsLeadToOne}
 use Rattle.restarts.specs.Restarting.{BeginsAs, FollowAll, FollowsAs, Found}
 

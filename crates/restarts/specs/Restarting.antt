@@ -10,7 +10,7 @@ use Rattle.kept_records.specs.declared.record.Kind.TheVariants as kind
 use Rattle.kept_records.specs.declared.record.Record.{Record}
 use Rattle.mirror_ledger.specs.Raising.{RaisesTo}
 use Rattle.profile_toml.specs.Reading.{profile_of_bytes, script_of_bytes}
-use Rattle.records.specs.declared.mirror.Mirror.{Mirror}
+use Rattle.catalogue.specs.declared.mirror.Mirror.{Mirror}
 use Rattle.service_desks.specs.Raises.{Replays, raise_of}
 use Rattle.services.specs.declared.record_fault.RecordFault.{RecordFault}
 use Rattle.services.specs.declared.record_fault.RecordFault.TheVariants as fault

@@ -7,7 +7,7 @@ use Rattle.std.proofs.lemmas.List.{append-nil, map-id}
 use Rattle.std.proofs.lemmas.List.Elements.{filter_map-append}
 use Rattle.std.proofs.lemmas.List.FromFn.{map-range_with_len_more}
 use Rattle.std.proofs.lemmas.Option.{slice_get_past}
-use Rattle.records.specs.declared.content.App.{App}
+use Rattle.catalogue.specs.declared.content.App.{App}
 use Rattle.reviews.specs.Changes.{changes_between, changes_of_pair}
 use Rattle.reviews.specs.declared.change.Change.{Change}
 use Rattle.reviews.specs.declared.review.TrackReview.{TrackReview}

@@ -1,7 +1,7 @@
 -- One step more along the first payloads.
 use Rattle.std.proofs.Common.{◌≡◌, ℕ, ◌+◌, ◌-◌, ◌<◌, suc, List, Option, Some, ap, ◌∙◌, arith}
 use Rattle.std.specs.Option.{option_map_or}
-use Rattle.records.specs.declared.content.App.{App}
+use Rattle.catalogue.specs.declared.content.App.{App}
 use Rattle.reviews.specs.Steps.{next_at, steps_within}
 use Rattle.reviews.specs.declared.outcome.Outcome.{Outcome}
 

@@ -2,7 +2,7 @@
 use Rattle.std.specs.Prelude.{ℕ, ◌&&◌, not, Bool, false, if◌then◌else◌, codes, decimal, List, [], ◌++◌, length, nat_lt, slice_get, Option}
 use Rattle.std.specs.List.{count_by, flat_map}
 use Rattle.std.specs.Option.{option_map_or}
-use Rattle.records.specs.declared.content.App.{App}
+use Rattle.catalogue.specs.declared.content.App.{App}
 use Rattle.reviews.specs.Lines.{line_string, spelled_at, stuck_release, stuck_word, track_string}
 use Rattle.reviews.specs.ReviewLines.{is_stuck, totals_string}
 use Rattle.reviews.specs.declared.change.Change.{Change}

@@ -2,7 +2,7 @@
 use Rattle.std.specs.Prelude.{ℕ, if◌then◌else◌, codes, List, [], ◌++◌, length, nat_lt, Option, None, Some, option_and_then}
 use Rattle.std.specs.List.{flat_map}
 use Rattle.serde_json.specs.Data.{Data, boolean, member, no_members, object, string}
-use Rattle.records.specs.declared.content.App.{App}
+use Rattle.catalogue.specs.declared.content.App.{App}
 use Rattle.reviews.specs.ChangeLines.{bytes_before, bytes_of, is_newly_stuck, line_by, newly_stuck_total, was_stuck}
 use Rattle.reviews.specs.Lines.{cohort_name, lane_word, spelled_at}
 use Rattle.reviews.specs.Objects.{bytes_data, capped, object_line, stuck_data, whole}

@@ -1,6 +1,6 @@
 -- Reviews after a change that are those of before it; this project's profile.
 use Rattle.std.specs.Prelude.{◌≡◌, ℕ, ◌<◌, Bool, true, false, List, length, IfSome, Option, None, slice_get, slice_index_or, Some}
-use Rattle.records.specs.declared.content.App.{App}
+use Rattle.catalogue.specs.declared.content.App.{App}
 use Rattle.reviews.specs.Reviews.{IsTrackReviewAmong}
 use Rattle.reviews.specs.declared.review.TrackReview.{TrackReview}
 

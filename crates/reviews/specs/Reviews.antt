@@ -1,7 +1,7 @@
 -- What is said of the clients of each track with a target; this project's profile.
 use Rattle.std.specs.Prelude.{◌≡◌, ℕ, ◌<◌, All, Bool, false, true, IfSome, List, length, map, slice_get, slice_index_or, Some}
-use Rattle.records.specs.Versions.{zero_version}
-use Rattle.records.specs.declared.content.App.{App}
+use Rattle.catalogue.specs.Versions.{zero_version}
+use Rattle.catalogue.specs.declared.content.App.{App}
 use Rattle.payload_graph.specs.Chains.{target_index}
 use Rattle.payload_graph.specs.Net.{Net}
 use Rattle.payload_graph.specs.declared.payload.TrackKey.{TrackKey}

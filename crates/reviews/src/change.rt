@@ -3,8 +3,8 @@
 ghost use Rattle.std.specs.Prelude.{◌≡◌, ◌++◌, ◌||◌, [], true, if◌then◌else◌, IfOk, OnOk, filter_map, length, position};
 ghost use Rattle.std.specs.List.{cons_option, flat_map, range_with_len};
 ghost use Rattle.values.specs.Ordered.{ascend};
-ghost use Rattle.records.specs.Lookups.{cohorts_at, is_release, releases_at};
-ghost use Rattle.records.specs.Validity.{is_release_below};
+ghost use Rattle.catalogue.specs.Lookups.{cohorts_at, is_release, releases_at};
+ghost use Rattle.catalogue.specs.Validity.{is_release_below};
 ghost use Rattle.reviews.specs.Changes.{are_same_clients, arrival_at, arrival_by, arrivals_between, arrivals_of, change_at, change_by, change_from, changes_between, changes_of, changes_of_pair, changes_on, changes_to, clients_of, had_target, has_clients, has_clients_on, has_downgrades, has_lane, is_changed, is_lane_before, is_same_cohort, is_same_form, is_same_lane, is_same_lane_of, is_same_payload, is_same_version, is_served, is_target_of, version_to, was_at};
 ghost use Rattle.reviews.specs.declared.review.TrackReview.{TrackReview};
 
@@ -12,10 +12,9 @@ use crate::line::find_app;
 use crate::outcome::Outcome;
 use crate::review::TrackReview;
 use crate::stuck::is_stuck;
-use catalogue::{App, Catalogue, Cohort, Release};
+use catalogue::{App, Catalogue, Cohort, Release, Version, lookup};
 use cohorts::Lane;
 use payload_graph::{Payload, TrackKey};
-use records::{Version, lookup};
 use std::alloc::{AllocError, Global};
 
 /// The clients of a lane of a cohort that allow a downgrade, or those that don't.
@@ -264,7 +263,7 @@ fn index_of_release(releases: &[Release], first: usize, version: &Version) -> Op
     requires { ascend is_release_below releases.now ≡ true }
     ensures { result ≡ position (is_release version.now) releases.now }
 {
-    records::version_laws::order();
+    catalogue::version_laws::order();
     match releases.get(first) {
         Some(release) if version.is_equal(&release.version) => Some(first),
         _ => lookup::index_of_release(releases, version),

@@ -42,7 +42,7 @@ fn push_from(
     requires source { HasSource before.now.catalogue.now after.now before.now.tracks.now new.now source }
     ensures { OnOk result (changes.new.items ≡ changes.old.items ++ changes_of_pair before.now.catalogue.now after.now old.now new.now) }
 {
-    records::version_laws::order();
+    catalogue::version_laws::order();
     before.catalogue.validity();
     if is_source(source, from) {
         return Ok(());

@@ -5,10 +5,10 @@ ghost use Rattle.std.specs.List.{enumerate_from, list_all, list_any};
 ghost use Rattle.std.specs.Option.{is_some};
 ghost use Rattle.std.specs.Str.{bytes_eq};
 ghost use Rattle.values.specs.Ordered.{ascend};
-ghost use Rattle.records.specs.Versions.{zero_version};
-ghost use Rattle.records.specs.Lookups.{is_release, place_of};
-ghost use Rattle.records.specs.Validity.{is_release_below};
-ghost use Rattle.records.specs.declared.content.Release.{Release};
+ghost use Rattle.catalogue.specs.Versions.{zero_version};
+ghost use Rattle.catalogue.specs.Lookups.{is_release, place_of};
+ghost use Rattle.catalogue.specs.Validity.{is_release_below};
+ghost use Rattle.catalogue.specs.declared.content.Release.{Release};
 ghost use Rattle.cohorts.specs.Offers.{is_offered, is_open_to};
 ghost use Rattle.cohorts.specs.declared.pin.Pin.TheVariants as pin;
 ghost use Rattle.payload_graph.specs.Net.{door_of, doors_of};
@@ -18,10 +18,9 @@ ghost use Rattle.reviews.specs.Routes.{lifted_door, AreRoads};
 
 use crate::cause::Cause;
 use crate::roads::Roads;
-use catalogue::{Cohort, Release};
+use catalogue::{Cohort, Release, Version, lookup};
 use cohorts::{Pin, is_offered};
 use payload_graph::{Door, TrackKey, rolls_back};
-use records::{Version, lookup};
 use std::alloc::{AllocError, Global};
 use values::Text;
 

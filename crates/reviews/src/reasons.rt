@@ -34,7 +34,7 @@ impl Subject<'_> {
         requires { IsTrackOf self.now.app.now self.now.key.now self.now.cohort.now self.now.target }
         ensures { IfOk result (λ flags. AreFreedAs self.now.app.now self.now.key.now cause flags.items) }
     {
-        records::version_laws::order();
+        catalogue::version_laws::order();
         payload_graph::laws::fulls();
         let releases = self.app.releases.as_slice();
         let roads = roads_without(alloc, cause, self.cohort, self.key, releases, self.target)?;

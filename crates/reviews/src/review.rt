@@ -14,12 +14,11 @@ use crate::largest::{Largest, find_largest, largest_sum};
 use crate::outcome::{Outcome, outcome_by};
 use crate::reasons::Subject;
 use crate::steps::all_steps;
-use catalogue::Catalogue;
+use catalogue::{Catalogue, Version, lookup};
 use cohorts::track_target;
 use payload_graph::{Place, TrackKey};
 use price_cert::{Certified, Row};
 use quotes::{Quote, quote_at, quote_from};
-use records::{Version, lookup};
 use std::alloc::{AllocError, Global};
 use values::SharedItems;
 

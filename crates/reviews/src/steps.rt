@@ -2,13 +2,12 @@
 
 ghost use Rattle.std.specs.Prelude.{◌≡◌, IfOk, true};
 ghost use Rattle.values.specs.Ordered.{ascend};
-ghost use Rattle.records.specs.Validity.{is_release_below};
+ghost use Rattle.catalogue.specs.Validity.{is_release_below};
 ghost use Rattle.reviews.specs.Steps.{all_steps, next_at, next_to, release_to, steps_at, steps_of};
 
 use crate::outcome::Outcome;
-use catalogue::App;
+use catalogue::{App, lookup};
 use payload_graph::Payload;
-use records::lookup;
 use std::alloc::{AllocError, Global};
 use values::SharedItems;
 

@@ -2,8 +2,8 @@
 
 use crate::batches::small;
 use crate::rows::{Kind, check_rows};
+use catalogue::Version;
 use cohorts::Pin;
-use records::Version;
 use std::alloc::{AllocError, Global};
 
 const VERSIONS: &str = "0 1.2 1.2.3 1.2.3.4 1.2.34 4 4.0.1 4.1 40";

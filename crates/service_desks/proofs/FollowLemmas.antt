@@ -8,7 +8,7 @@ use Rattle.http_desks.specs.declared.desk.DeskStatus.TheVariants as status
 use Rattle.http_desks.specs.declared.desk.Off.{Off}
 use Rattle.http_desks.specs.declared.desk.Off.TheVariants as off
 use Rattle.kept_records.specs.declared.record.Record.{Record}
-use Rattle.records.specs.declared.mirror.Mirror.{Mirror}
+use Rattle.catalogue.specs.declared.mirror.Mirror.{Mirror}
 use Rattle.service_desks.specs.Following.{Adopts, Follows, GivesWay, StopsEarly, number_in, settled_state, state}
 use Rattle.service_desks.specs.Lines.{edition_line, followed_line, stale_line}
 use Rattle.service_desks.specs.States.{State}

@@ -9,9 +9,9 @@ use Rattle.mirror_ledger.specs.declared.raise_error.RaiseError.{RaiseError}
 use Rattle.mirror_ledger.specs.declared.raise_error.RaiseError.TheVariants as fault
 use Rattle.profile_toml.specs.Laws.{AreMirrors}
 use Rattle.profile_toml.specs.Mirrors.{is_named, max_mirrors}
-use Rattle.records.specs.Forms.{is_cohort_name}
-use Rattle.records.specs.Mirrors.{is_codebase, is_mirror, max_budget}
-use Rattle.records.specs.declared.mirror.Mirror.{Mirror}
+use Rattle.catalogue.specs.Forms.{is_cohort_name}
+use Rattle.catalogue.specs.Mirrors.{is_codebase, is_mirror, max_budget}
+use Rattle.catalogue.specs.declared.mirror.Mirror.{Mirror}
 use Rattle.values.proofs.ChangedLemmas.{count_by-cons}
 
 both-from : (a b : Bool) → a ≡ true → b ≡ true → (a && b) ≡ true

@@ -1,6 +1,6 @@
 -- The asks that were granted by the first mirror with room, one after the other.
 use Rattle.std.proofs.Common.{List, [], ◌∷◌, ◌++◌, append_assoc, append-nil, sym, ap, ◌∙◌, subst}
-use Rattle.records.specs.declared.mirror.Mirror.{Mirror}
+use Rattle.catalogue.specs.declared.mirror.Mirror.{Mirror}
 use Rattle.mirror_ledger.specs.Asks.{Ask}
 use Rattle.service_desks.specs.Asking.{AreGranted, GrantsFirst}
 

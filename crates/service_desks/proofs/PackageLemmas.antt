@@ -5,14 +5,14 @@ use Rattle.std.specs.Map.{lookup}
 use Rattle.std.proofs.lemmas.Bool.{and_parts}
 use Rattle.std.proofs.lemmas.Slice.Eq.{bytes_eq-Decides}
 use Rattle.std.proofs.lemmas.Str.{IsUtf8-from_ascii}
-use Rattle.records.specs.Forms.{has_length, is_hash, is_package_byte, is_package_name, is_size}
-use Rattle.records.specs.Lookups.{declared_of, diff_package, full_package, packages_in, packages_of}
-use Rattle.records.specs.Validity.{IsValid, IsValidApp, is_valid_audience, is_valid_diff, is_valid_release}
-use Rattle.records.specs.declared.content.App.{App}
-use Rattle.records.specs.declared.content.Cohort.{Cohort}
+use Rattle.catalogue.specs.Forms.{has_length, is_hash, is_package_byte, is_package_name, is_size}
+use Rattle.catalogue.specs.Lookups.{declared_of, diff_package, full_package, packages_in, packages_of}
+use Rattle.catalogue.specs.Validity.{IsValid, IsValidApp, is_valid_audience, is_valid_diff, is_valid_release}
+use Rattle.catalogue.specs.declared.content.App.{App}
+use Rattle.catalogue.specs.declared.content.Cohort.{Cohort}
 use Rattle.values.specs.declared.declared.Declared.{Declared}
-use Rattle.records.specs.declared.content.Diff.{Diff}
-use Rattle.records.specs.declared.content.Release.{Release}
+use Rattle.catalogue.specs.declared.content.Diff.{Diff}
+use Rattle.catalogue.specs.declared.content.Release.{Release}
 
 -- a package's byte is ASCII
 is_package_byte-ascii : (byte : ℕ) → is_package_byte byte ≡ true → byte < 128

@@ -9,7 +9,7 @@ use Rattle.std.proofs.lemmas.Str.Parse.{IsNumeralModel, numerals_by_value, parse
 use Rattle.mirror_ledger.specs.Raising.{RaisesTo}
 use Rattle.mirror_ledger.specs.declared.raise_error.RaiseError.{RaiseError}
 use Rattle.mirror_ledger.specs.declared.raise_error.RaiseError.TheVariants as fault
-use Rattle.records.specs.declared.mirror.Mirror.{Mirror}
+use Rattle.catalogue.specs.declared.mirror.Mirror.{Mirror}
 use Rattle.service_desks.specs.Raises.{is_number}
 
 -- the strings of ASCII digits are those of decimal digits

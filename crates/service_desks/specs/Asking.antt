@@ -1,7 +1,7 @@
 -- What mirrors are asked to grant for a plan; this project's profile.
 use Rattle.std.specs.Prelude.{◌≡◌, ⊤, ℕ, List, [], ◌∷◌, ◌++◌, flat_map, Option, None, Some}
 use Rattle.std.specs.List.{zip}
-use Rattle.records.specs.declared.mirror.Mirror.{Mirror}
+use Rattle.catalogue.specs.declared.mirror.Mirror.{Mirror}
 use Rattle.mirror_ledger.specs.Asks.{Ask}
 use Rattle.mirror_ledger.specs.Order.{IsFirstWithRoom}
 use Rattle.replies.specs.Replies.{AreOutcomes}

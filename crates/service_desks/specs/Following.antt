@@ -13,7 +13,7 @@ use Rattle.kept_records.specs.declared.record.Kind.TheVariants as kind
 use Rattle.kept_records.specs.declared.record.Record.{Record}
 use Rattle.mirror_ledger.specs.Raising.{RaisesTo}
 use Rattle.profile_toml.specs.Reading.{script_of_bytes}
-use Rattle.records.specs.declared.mirror.Mirror.{Mirror}
+use Rattle.catalogue.specs.declared.mirror.Mirror.{Mirror}
 use Rattle.service_desks.specs.Lines.{edition_line, followed_line, stale_line, unreachable_line}
 use Rattle.service_desks.specs.Raises.{raise_of}
 use Rattle.service_desks.specs.States.{State, earlier_in, publication_of, settled, store, with_due, with_raise, with_script}

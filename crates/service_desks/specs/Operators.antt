@@ -8,7 +8,7 @@ use Rattle.http_desks.specs.declared.desk.DeskStatus.TheVariants as status
 use Rattle.http_desks.specs.declared.desk.Off.{Off}
 use Rattle.http_desks.specs.declared.desk.Off.TheVariants as off
 use Rattle.profile_writer.specs.Profiles.{IsProfileFile, IsReadAs}
-use Rattle.records.specs.declared.mirror.Mirror.{Mirror}
+use Rattle.catalogue.specs.declared.mirror.Mirror.{Mirror}
 use Rattle.service_desks.specs.Following.{Follows, GivesWay, follow_word}
 use Rattle.service_desks.specs.Raises.{RaisesBy, is_raise}
 use Rattle.service_desks.specs.Scripts.{Performs}

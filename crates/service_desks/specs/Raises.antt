@@ -14,8 +14,8 @@ use Rattle.kept_records.specs.declared.record.Record.{Record}
 use Rattle.mirror_ledger.specs.Named.{budget_at}
 use Rattle.mirror_ledger.specs.Raising.{IsAt, RaisesTo}
 use Rattle.mirror_ledger.specs.declared.raise_error.RaiseError.{RaiseError}
-use Rattle.records.specs.Mirrors.{max_budget}
-use Rattle.records.specs.declared.mirror.Mirror.{Mirror}
+use Rattle.catalogue.specs.Mirrors.{max_budget}
+use Rattle.catalogue.specs.declared.mirror.Mirror.{Mirror}
 use Rattle.service_desks.specs.Lines.{IsUnkept, invalid_raise_line, raised_line, unraised_line}
 use Rattle.service_desks.specs.States.{Store, with_raise}
 

@@ -6,7 +6,7 @@ use Rattle.http_desks.specs.Calls.{Call, Leads}
 use Rattle.mirror_ledger.specs.Asks.{Ask}
 use Rattle.mirror_ledger.specs.Tills.{AreTotalsOf, HadNoRoom}
 use Rattle.publisher.specs.Sights.{Allows, Sight, fresh}
-use Rattle.records.specs.declared.mirror.Mirror.{Mirror}
+use Rattle.catalogue.specs.declared.mirror.Mirror.{Mirror}
 use Rattle.service_desks.specs.Operators.{IsCall as IsOperatorCall}
 use Rattle.service_desks.specs.States.{State, Store}
 use Rattle.service_desks.specs.Workers.{IsCall}

@@ -4,7 +4,7 @@ use Rattle.catalogue_laws.specs.Histories.{History}
 use Rattle.kept_records.specs.Keeping.{record_of}
 use Rattle.kept_records.specs.declared.record.Kind.TheVariants as kind
 use Rattle.kept_records.specs.declared.record.Record.{Record}
-use Rattle.records.specs.declared.mirror.Mirror.{Mirror}
+use Rattle.catalogue.specs.declared.mirror.Mirror.{Mirror}
 
 -- what is kept: the number of the first record, which is that of its edition; the records that are known; and, if the last
 -- one isn't published yet, as memory ran out, the history that is due

@@ -12,8 +12,8 @@ use Rattle.omaha_json.specs.RequestReading.{request_of_bytes}
 use Rattle.omaha_json.specs.declared.fault.RequestFault.{RequestFault}
 use Rattle.omaha_json.specs.declared.request.Request.{Request}
 use Rattle.publisher.specs.Sights.{Sight}
-use Rattle.records.specs.Lookups.{declared_of}
-use Rattle.records.specs.declared.mirror.Mirror.{Mirror}
+use Rattle.catalogue.specs.Lookups.{declared_of}
+use Rattle.catalogue.specs.declared.mirror.Mirror.{Mirror}
 use Rattle.values.specs.declared.declared.Declared.{Declared}
 use Rattle.service_desks.specs.Answering.{HasBegun, IsReply, Stock}
 use Rattle.service_desks.specs.Entries.{Enters, FindsNoEntry}

@@ -9,7 +9,7 @@ ghost use Rattle.kept_records.specs.Keeping.{record_of};
 ghost use Rattle.kept_records.specs.declared.record.Kind.TheVariants.{Raise, Script};
 ghost use Rattle.profile_toml.specs.Laws.{AreMirrors};
 ghost use Rattle.kept_records.specs.declared.record.Record.{Record};
-ghost use Rattle.records.specs.declared.mirror.Mirror.{Mirror};
+ghost use Rattle.catalogue.specs.declared.mirror.Mirror.{Mirror};
 ghost use Rattle.service_desks.specs.Following.{AdoptsNext, Follows, GivesWay, IsRaiseBy, IsReplyWithout, IsScriptAfter, number_in, state};
 ghost use Rattle.service_desks.specs.States.{GoesOn};
 

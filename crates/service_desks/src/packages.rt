@@ -1,7 +1,7 @@
 // The packages that a catalogue declares.
 
 ghost use Rattle.std.specs.Prelude.{◌≡◌};
-ghost use Rattle.records.specs.Lookups.{declared_of};
+ghost use Rattle.catalogue.specs.Lookups.{declared_of};
 
 use catalogue::{Catalogue, Declared};
 use std::str;

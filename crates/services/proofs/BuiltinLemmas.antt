@@ -1,9 +1,9 @@
 -- The built-in batch is accepted, so it is never rejected, and leads to the built-in content.
 use Rattle.std.proofs.Common.{◌≡◌, List, [], ◌∷◌, Result, Ok, Err, length, refl, ap, arith}
-use Rattle.records.specs.Versions.{components_of, lenient_version_of, version_of}
+use Rattle.catalogue.specs.Versions.{components_of, lenient_version_of, version_of}
 use Rattle.catalogue.specs.Batches.{outcome, run, then_run}
-use Rattle.records.specs.Forms.{hash_of}
-use Rattle.records.specs.declared.content.App.{App}
+use Rattle.catalogue.specs.Forms.{hash_of}
+use Rattle.catalogue.specs.declared.content.App.{App}
 use Rattle.catalogue.specs.declared.edit.Edit.{Edit}
 use Rattle.catalogue.specs.declared.fault.Refused.{Refused}
 use Rattle.editions.specs.Editions.{Continues, content_of, content_or_none, outcome_after}

@@ -2,9 +2,9 @@
 use Rattle.std.proofs.Common.{◌≡◌, ◌&&◌, List, [], ◌∷◌, true, nat_le, refl, ap₂}
 use Rattle.std.specs.List.{list_all}
 use Rattle.std.proofs.lemmas.Bool.{and_parts}
-use Rattle.records.specs.Forms.{is_cohort_name}
-use Rattle.records.specs.Mirrors.{is_codebase, is_mirror, max_budget}
-use Rattle.records.specs.declared.mirror.Mirror.{Mirror}
+use Rattle.catalogue.specs.Forms.{is_cohort_name}
+use Rattle.catalogue.specs.Mirrors.{is_codebase, is_mirror, max_budget}
+use Rattle.catalogue.specs.declared.mirror.Mirror.{Mirror}
 use Rattle.mirror_ledger.specs.Named.{are_bounded}
 
 -- the budgets of valid mirrors are at most the maximum

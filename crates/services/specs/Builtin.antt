@@ -1,8 +1,8 @@
 -- The catalogue that is built into the program, for runs without a profile: an app with two releases,
 -- whose one cohort targets the second; and its mirror.
 use Rattle.std.specs.Prelude.{ℕ, false, List, [], ◌∷◌, codes, replicate, Some, None}
-use Rattle.records.specs.declared.content.App.{App}
-use Rattle.records.specs.declared.mirror.Mirror.{Mirror}
+use Rattle.catalogue.specs.declared.content.App.{App}
+use Rattle.catalogue.specs.declared.mirror.Mirror.{Mirror}
 use Rattle.catalogue.specs.declared.edit.Edit.{Edit}
 use Rattle.catalogue.specs.declared.edit.Edit.TheVariants as edit
 use Rattle.services.specs.declared.service.Service.{Service}

@@ -1,7 +1,7 @@
 -- The lines of the mirrors' totals; this project's profile.
 use Rattle.std.specs.Prelude.{ℕ, List, ◌++◌, codes, decimal, flat_map, map}
 use Rattle.std.specs.List.{zip}
-use Rattle.records.specs.declared.mirror.Mirror.{Mirror}
+use Rattle.catalogue.specs.declared.mirror.Mirror.{Mirror}
 
 -- the names of mirrors
 abbrev pub names_of : List Mirror → List (List ℕ)

@@ -5,7 +5,7 @@ ghost use Rattle.mirror_ledger.specs.Named.{are_bounded};
 ghost use Rattle.mirror_ledger.specs.Raising.{AreNamed};
 ghost use Rattle.profile_toml.specs.Laws.{AreMirrors};
 
-use records::Mirror;
+use catalogue::Mirror;
 use std::marker::Model;
 
 /// One to four mirrors, each valid and no two of one name, which contracts see as their list.
@@ -16,7 +16,7 @@ pub struct Mirrors {
 
 impl Model for Mirrors {
     ghost use Rattle.std.specs.Prelude.{List};
-    ghost use Rattle.records.specs.declared.mirror.Mirror.{Mirror};
+    ghost use Rattle.catalogue.specs.declared.mirror.Mirror.{Mirror};
     ghost use Rattle.profile_toml.specs.Laws.{AreMirrors};
 
     ghost Value = { List Mirror };

@@ -3,12 +3,12 @@
 ghost use Rattle.std.specs.Prelude.{◌≡◌, ◌≤◌, ◌<◌, true, vec_len};
 ghost use Rattle.mirror_ledger.specs.Named.{are_bounded, are_rising, IsNamed};
 
+use catalogue::Mirror;
 use fixtures::{few_mirrors, is_line, push_numbers, three_parts};
 use mirror_ledger::{
     Blanks, Book, Books, BudgetName, Budgets, Opened, Raisers, Share, Shares, Treasurer, close,
     open_books,
 };
-use records::Mirror;
 use std::alloc::{AllocError, Global};
 use std::marker::Brand;
 use std::sync::{Mutex, Wait};

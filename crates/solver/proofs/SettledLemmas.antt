@@ -4,7 +4,7 @@ use Rattle.std.specs.List.{Contains}
 use Rattle.std.proofs.lemmas.Bool.{and_parts, cases_lt, eqb-true, false≢true, leb-true}
 use Rattle.std.proofs.lemmas.List.Elements.{All-contains}
 use Rattle.std.proofs.lemmas.List.Folds.{Any-from_list_any}
-use Rattle.records.specs.Forms.{is_size}
+use Rattle.catalogue.specs.Forms.{is_size}
 use Rattle.payload_graph.specs.Laws.{EdgesAreSized, EdgesLeadNearer}
 use Rattle.payload_graph.specs.Net.{Net, edges_from}
 use Rattle.payload_graph.specs.Soundness.{LeadsNearer}

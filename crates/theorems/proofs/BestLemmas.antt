@@ -2,7 +2,7 @@
 -- one of the highest score.
 use Rattle.std.proofs.Common.{◌≡◌, ℕ, zero, suc, ◌+◌, ◌<◌, ◌⊎◌, inl, inr, Bool, true, false, Option, None, Some, refl, sym, ap, ◌∙◌, subst, arith}
 use Rattle.std.proofs.lemmas.Bool.{cases_eq, false≢true}
-use Rattle.records.specs.declared.content.App.{App}
+use Rattle.catalogue.specs.declared.content.App.{App}
 use Rattle.payload_graph.specs.Chains.{bytes_of, destination_of}
 use Rattle.payload_graph.specs.Permitted.{permits}
 use Rattle.payload_graph.specs.declared.payload.Payload.{Payload}

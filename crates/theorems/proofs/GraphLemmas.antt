@@ -10,15 +10,15 @@ use Rattle.std.proofs.lemmas.List.FromFn.{get_or-enumerate_from, length-enumerat
 use Rattle.std.proofs.lemmas.List.Sums.{AllPass-from_list_all}
 use Rattle.std.proofs.lemmas.Option.{option_and_then_some, slice_get_within}
 use Rattle.std.proofs.lemmas.Slice.Eq.{bytes_eq-Decides}
-use Rattle.records.specs.VersionLaws.{BelowIsIrreflexive, BelowIsTransitive}
-use Rattle.records.specs.Versions.{is_below}
-use Rattle.records.specs.Forms.{is_hash, is_package_name, is_size}
-use Rattle.records.specs.Lookups.{has_release, is_release}
-use Rattle.records.specs.Validity.{IsValidApp, is_valid_audience, is_valid_diff, is_valid_release, spells}
-use Rattle.records.specs.declared.content.App.{App}
-use Rattle.records.specs.declared.content.Cohort.{Cohort}
-use Rattle.records.specs.declared.content.Diff.{Diff}
-use Rattle.records.specs.declared.content.Release.{Release}
+use Rattle.catalogue.specs.VersionLaws.{BelowIsIrreflexive, BelowIsTransitive}
+use Rattle.catalogue.specs.Versions.{is_below}
+use Rattle.catalogue.specs.Forms.{is_hash, is_package_name, is_size}
+use Rattle.catalogue.specs.Lookups.{has_release, is_release}
+use Rattle.catalogue.specs.Validity.{IsValidApp, is_valid_audience, is_valid_diff, is_valid_release, spells}
+use Rattle.catalogue.specs.declared.content.App.{App}
+use Rattle.catalogue.specs.declared.content.Cohort.{Cohort}
+use Rattle.catalogue.specs.declared.content.Diff.{Diff}
+use Rattle.catalogue.specs.declared.content.Release.{Release}
 use Rattle.cohorts.specs.Offers.{track_target}
 use Rattle.cohorts.specs.declared.pin.Pin.{Pin}
 use Rattle.payload_graph.specs.Chains.{cohort_target, index_of}

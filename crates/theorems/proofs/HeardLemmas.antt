@@ -11,7 +11,7 @@ use Rattle.omaha_json.specs.declared.reply.KnownApp.{KnownApp}
 use Rattle.omaha_json.specs.declared.reply.Offer.{Offer}
 use Rattle.omaha_json.specs.declared.reply.Part.{Part}
 use Rattle.omaha_json.specs.declared.request.AppAsk.{AppAsk}
-use Rattle.records.specs.declared.mirror.Mirror.{Mirror}
+use Rattle.catalogue.specs.declared.mirror.Mirror.{Mirror}
 use Rattle.cohorts.specs.CohortTexts.{printed}
 use Rattle.replies.specs.Clients.{Client, cohort_of}
 use Rattle.replies.specs.Replies.{Decision, known_app, state_of}

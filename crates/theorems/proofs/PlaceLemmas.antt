@@ -11,13 +11,13 @@ use Rattle.std.proofs.lemmas.Option.{get_or_from_slice_get, slice_get_within}
 use Rattle.std.proofs.lemmas.Slice.Eq.{bytes_eq-Decides}
 use Rattle.hex.specs.Hex.{IsBytes, decode_sized, encode_lower}
 use Rattle.hex.proofs.HexLemmas.{decode_sized-encode_lower}
-use Rattle.records.specs.Versions.{lenient_version_of}
+use Rattle.catalogue.specs.Versions.{lenient_version_of}
 use Rattle.values.proofs.OnceLemmas.{position-once}
-use Rattle.records.specs.Lookups.{has_hash}
-use Rattle.records.specs.Validity.{IsValidApp, is_valid_release}
-use Rattle.records.specs.declared.content.App.{App}
-use Rattle.records.specs.declared.content.Cohort.{Cohort}
-use Rattle.records.specs.declared.content.Release.{Release}
+use Rattle.catalogue.specs.Lookups.{has_hash}
+use Rattle.catalogue.specs.Validity.{IsValidApp, is_valid_release}
+use Rattle.catalogue.specs.declared.content.App.{App}
+use Rattle.catalogue.specs.declared.content.Cohort.{Cohort}
+use Rattle.catalogue.specs.declared.content.Release.{Release}
 use Rattle.payload_graph.specs.Places.{fingerprint_of, fingerprint_with, has_fingerprint, place_of}
 use Rattle.payload_graph.specs.declared.place.Place.TheVariants.{At, Outside}
 use Rattle.theorems.proofs.ItemLemmas.{list_all-slice_get}

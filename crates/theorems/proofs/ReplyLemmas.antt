@@ -1,12 +1,12 @@
 -- The reply to the update check of a client: what its status says.
 use Rattle.std.proofs.Common.{◌≡◌, ℕ, List, Option, None, Some, refl, sym, ap, ◌∙◌, subst}
 use Rattle.std.specs.Option.{option_and_then, option_map, option_map_or, MatchOption}
-use Rattle.records.specs.VersionLaws.{BelowIsIrreflexive, BelowIsTransitive}
-use Rattle.records.specs.Validity.{IsValid, IsValidApp}
-use Rattle.records.specs.declared.content.App.{App}
-use Rattle.records.specs.declared.content.Diff.{Diff}
-use Rattle.records.specs.declared.content.Release.{Release}
-use Rattle.records.specs.declared.mirror.Mirror.{Mirror}
+use Rattle.catalogue.specs.VersionLaws.{BelowIsIrreflexive, BelowIsTransitive}
+use Rattle.catalogue.specs.Validity.{IsValid, IsValidApp}
+use Rattle.catalogue.specs.declared.content.App.{App}
+use Rattle.catalogue.specs.declared.content.Diff.{Diff}
+use Rattle.catalogue.specs.declared.content.Release.{Release}
+use Rattle.catalogue.specs.declared.mirror.Mirror.{Mirror}
 use Rattle.omaha_json.specs.declared.reply.AppReply.{AppReply}
 use Rattle.omaha_json.specs.declared.reply.AppState.{AppState}
 use Rattle.omaha_json.specs.declared.reply.AppState.TheVariants as state

@@ -1,8 +1,8 @@
 -- Each app of a request gets a reply to its ask.
 use Rattle.std.proofs.Common.{ℕ, List, [], ◌∷◌, map, Option, refl, sym, ap}
 use Rattle.std.specs.List.{AllZip, zip}
-use Rattle.records.specs.declared.content.App.{App}
-use Rattle.records.specs.declared.mirror.Mirror.{Mirror}
+use Rattle.catalogue.specs.declared.content.App.{App}
+use Rattle.catalogue.specs.declared.mirror.Mirror.{Mirror}
 use Rattle.omaha_json.specs.declared.reply.AppReply.{AppReply}
 use Rattle.omaha_json.specs.declared.request.AppAsk.{AppAsk}
 use Rattle.replies.specs.Plans.{IsChosen, payload_in}

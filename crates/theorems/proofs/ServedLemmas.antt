@@ -5,10 +5,10 @@ use Rattle.std.specs.List.{AllZip, cons_option, list_all}
 use Rattle.std.specs.Option.{option_map_or}
 use Rattle.std.proofs.lemmas.List.Elements.{All-head, All-tail}
 use Rattle.std.proofs.lemmas.List.Sums.{sum_by-cons}
-use Rattle.records.specs.Mirrors.{is_mirror}
-use Rattle.records.specs.Validity.{IsValid}
-use Rattle.records.specs.declared.content.App.{App}
-use Rattle.records.specs.declared.mirror.Mirror.{Mirror}
+use Rattle.catalogue.specs.Mirrors.{is_mirror}
+use Rattle.catalogue.specs.Validity.{IsValid}
+use Rattle.catalogue.specs.declared.content.App.{App}
+use Rattle.catalogue.specs.declared.mirror.Mirror.{Mirror}
 use Rattle.omaha_json.specs.declared.reply.AppReply.{AppReply}
 use Rattle.omaha_json.specs.declared.reply.CheckReply.TheVariants as check
 use Rattle.omaha_json.specs.declared.reply.Offer.{Offer}

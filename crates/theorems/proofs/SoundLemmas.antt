@@ -9,15 +9,15 @@ use Rattle.std.proofs.lemmas.List.Elements.{All-cons, All-nil}
 use Rattle.std.proofs.lemmas.Str.{IsUtf8-from_ascii}
 use Rattle.std.proofs.lemmas.Str.Ascii.{IsAscii-nil}
 use Rattle.hex.specs.Hex.{IsBytes}
-use Rattle.records.specs.Forms.{is_cohort_name, is_hash, is_size}
-use Rattle.records.specs.Lookups.{is_app}
-use Rattle.records.specs.Mirrors.{is_codebase, is_mirror, max_budget}
-use Rattle.records.specs.Validity.{IsValidApp, is_valid_cohort, is_valid_diff, is_valid_release}
-use Rattle.records.specs.declared.content.App.{App}
-use Rattle.records.specs.declared.content.Cohort.{Cohort}
-use Rattle.records.specs.declared.content.Diff.{Diff}
-use Rattle.records.specs.declared.content.Release.{Release}
-use Rattle.records.specs.declared.mirror.Mirror.{Mirror}
+use Rattle.catalogue.specs.Forms.{is_cohort_name, is_hash, is_size}
+use Rattle.catalogue.specs.Lookups.{is_app}
+use Rattle.catalogue.specs.Mirrors.{is_codebase, is_mirror, max_budget}
+use Rattle.catalogue.specs.Validity.{IsValidApp, is_valid_cohort, is_valid_diff, is_valid_release}
+use Rattle.catalogue.specs.declared.content.App.{App}
+use Rattle.catalogue.specs.declared.content.Cohort.{Cohort}
+use Rattle.catalogue.specs.declared.content.Diff.{Diff}
+use Rattle.catalogue.specs.declared.content.Release.{Release}
+use Rattle.catalogue.specs.declared.mirror.Mirror.{Mirror}
 use Rattle.catalogue.proofs.ValidCohortLemmas.{ValidCohort-from_test}
 use Rattle.catalogue.proofs.ValidDiffLemmas.{ValidDiff-from_test}
 use Rattle.catalogue.proofs.ValidReleaseLemmas.{ValidRelease-from_test}

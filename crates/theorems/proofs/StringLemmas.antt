@@ -11,10 +11,10 @@ use Rattle.std.proofs.lemmas.Str.{IsUtf8-append, IsUtf8-from_ascii}
 use Rattle.std.proofs.lemmas.Str.Ascii.{IsAscii-cons, IsAscii-nil}
 use Rattle.hex.specs.Hex.{encode_lower, lower_digits}
 use Rattle.hex.proofs.HexLemmas.{IsAscii-encode_with}
-use Rattle.records.specs.Forms.{has_length, is_cohort_byte, is_cohort_name, is_hash_digit, is_package_byte, is_package_name}
-use Rattle.records.specs.Mirrors.{is_codebase, is_codebase_byte}
-use Rattle.records.specs.Validity.{spells}
-use Rattle.records.specs.Versions.{components_of, has_leading_zero, is_number, max_components, number_in, number_of, numbers_of, padded, parts_of, prepended, version_of}
+use Rattle.catalogue.specs.Forms.{has_length, is_cohort_byte, is_cohort_name, is_hash_digit, is_package_byte, is_package_name}
+use Rattle.catalogue.specs.Mirrors.{is_codebase, is_codebase_byte}
+use Rattle.catalogue.specs.Validity.{spells}
+use Rattle.catalogue.specs.Versions.{components_of, has_leading_zero, is_number, max_components, number_in, number_of, numbers_of, padded, parts_of, prepended, version_of}
 
 no_longer : false ≡ true → ⊥
 no_longer same = cc

@@ -7,11 +7,11 @@ use Rattle.std.proofs.lemmas.Bool.{and_parts}
 use Rattle.std.proofs.lemmas.Option.{get_or_from_slice_get, slice_get-get_or, slice_get_within}
 use Rattle.std.proofs.lemmas.Slice.Eq.{bytes_eq-Decides}
 use Rattle.values.proofs.OnceLemmas.{position-once}
-use Rattle.records.specs.Forms.{is_cohort_name}
-use Rattle.records.specs.Lookups.{is_app, is_cohort}
-use Rattle.records.specs.Validity.{IsValidApp, is_valid_cohort}
-use Rattle.records.specs.declared.content.App.{App}
-use Rattle.records.specs.declared.content.Cohort.{Cohort}
+use Rattle.catalogue.specs.Forms.{is_cohort_name}
+use Rattle.catalogue.specs.Lookups.{is_app, is_cohort}
+use Rattle.catalogue.specs.Validity.{IsValidApp, is_valid_cohort}
+use Rattle.catalogue.specs.declared.content.App.{App}
+use Rattle.catalogue.specs.declared.content.Cohort.{Cohort}
 use Rattle.omaha_json.specs.declared.request.AppAsk.{AppAsk}
 use Rattle.cohorts.specs.CohortTexts.{parsed, printed}
 use Rattle.cohorts.specs.Laws.{ParsedIsPrinted, PrintedIsParsed}

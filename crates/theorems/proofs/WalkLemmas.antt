@@ -1,10 +1,10 @@
 -- A client can walk, and its walks are short: after each offer it is nearer its target.
 use Rattle.std.proofs.Common.{◌≡◌, ℕ, zero, suc, ◌-◌, ◌≤◌, ◌⊎◌, inl, inr, true, List, [], ◌∷◌, length, Option, Some, refl, sym, ap, ◌∙◌, subst, arith}
 use Rattle.std.specs.Option.{MatchOption}
-use Rattle.records.specs.VersionLaws.{BelowIsIrreflexive, BelowIsTransitive}
-use Rattle.records.specs.Validity.{IsValid}
-use Rattle.records.specs.declared.content.App.{App}
-use Rattle.records.specs.declared.mirror.Mirror.{Mirror}
+use Rattle.catalogue.specs.VersionLaws.{BelowIsIrreflexive, BelowIsTransitive}
+use Rattle.catalogue.specs.Validity.{IsValid}
+use Rattle.catalogue.specs.declared.content.App.{App}
+use Rattle.catalogue.specs.declared.mirror.Mirror.{Mirror}
 use Rattle.cohorts.specs.Laws.{ParsedIsPrinted, PrintedIsParsed}
 use Rattle.omaha_json.specs.declared.reply.AppReply.{AppReply}
 use Rattle.omaha_json.specs.declared.request.AppAsk.{AppAsk}

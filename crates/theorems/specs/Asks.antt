@@ -2,8 +2,8 @@
 -- profile. A reply here is the one to a single app, whose requested bytes some mirror granted.
 use Rattle.std.specs.Prelude.{◌≡◌, ◌<◌, true, ℕ, List, [], ◌∷◌, length, Option, None, Some, MatchOption, option_and_then, option_map}
 use Rattle.std.specs.Option.{option_map_or}
-use Rattle.records.specs.declared.content.App.{App}
-use Rattle.records.specs.declared.mirror.Mirror.{Mirror}
+use Rattle.catalogue.specs.declared.content.App.{App}
+use Rattle.catalogue.specs.declared.mirror.Mirror.{Mirror}
 use Rattle.omaha_json.specs.declared.reply.AppReply.{AppReply}
 use Rattle.omaha_json.specs.declared.reply.AppState.{AppState}
 use Rattle.omaha_json.specs.declared.reply.AppState.TheVariants as state

@@ -2,8 +2,8 @@
 -- protocol 3.1.
 use Rattle.std.specs.Prelude.{◌≡◌, ℕ, ◌<◌, ◌^◌, List, Option, Ok}
 use Rattle.std.specs.List.{AllZip}
-use Rattle.records.specs.declared.content.App.{App}
-use Rattle.records.specs.declared.mirror.Mirror.{Mirror}
+use Rattle.catalogue.specs.declared.content.App.{App}
+use Rattle.catalogue.specs.declared.mirror.Mirror.{Mirror}
 use Rattle.omaha_json.specs.ReplyWriting.{reply_bytes}
 use Rattle.omaha_json.specs.RequestReading.{request_of_bytes}
 use Rattle.omaha_json.specs.declared.request.Request.{Request}

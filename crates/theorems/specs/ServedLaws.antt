@@ -1,10 +1,10 @@
 -- What holds of a client's walk that ended well, over a server whose catalogue stays as it is.
 use Rattle.std.specs.Prelude.{◌≡◌, ◌≤◌, ◌++◌, All, ℕ, List, length, true, Some, Ok, IsUtf8}
 use Rattle.std.specs.List.{list_all}
-use Rattle.records.specs.Mirrors.{is_mirror}
-use Rattle.records.specs.Validity.{IsValid}
-use Rattle.records.specs.declared.content.App.{App}
-use Rattle.records.specs.declared.mirror.Mirror.{Mirror}
+use Rattle.catalogue.specs.Mirrors.{is_mirror}
+use Rattle.catalogue.specs.Validity.{IsValid}
+use Rattle.catalogue.specs.declared.content.App.{App}
+use Rattle.catalogue.specs.declared.mirror.Mirror.{Mirror}
 use Rattle.catalogue_laws.specs.Histories.{History}
 use Rattle.omaha_json.specs.declared.reply.AppReply.{AppReply}
 use Rattle.payload_graph.specs.Chains.{IsAtTarget, IsChain}

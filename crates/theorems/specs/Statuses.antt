@@ -1,8 +1,8 @@
 -- What the status of an update check says of a client, and of what a catalogue permits; the Omaha
 -- protocol's statuses `noupdate`, `error-internal` and `ok`, this project's profile.
 use Rattle.std.specs.Prelude.{◌≡◌, ◌<◌, ◌⊎◌, ℕ, List, length, Option, None, Some}
-use Rattle.records.specs.declared.content.Release.{Release}
-use Rattle.records.specs.declared.mirror.Mirror.{Mirror}
+use Rattle.catalogue.specs.declared.content.Release.{Release}
+use Rattle.catalogue.specs.declared.mirror.Mirror.{Mirror}
 use Rattle.omaha_json.specs.declared.reply.CheckReply.{CheckReply}
 use Rattle.omaha_json.specs.declared.reply.CheckReply.TheVariants as check
 use Rattle.omaha_json.specs.declared.reply.Offer.{Offer}

@@ -3,8 +3,8 @@
 -- profile.
 use Rattle.std.specs.Prelude.{◌≡◌, ℕ, List, [], ◌∷◌, filter_map, MatchOption, sum_by}
 use Rattle.std.specs.Option.{option_map_or}
-use Rattle.records.specs.declared.content.App.{App}
-use Rattle.records.specs.declared.mirror.Mirror.{Mirror}
+use Rattle.catalogue.specs.declared.content.App.{App}
+use Rattle.catalogue.specs.declared.mirror.Mirror.{Mirror}
 use Rattle.omaha_json.specs.declared.reply.AppReply.{AppReply}
 use Rattle.omaha_json.specs.declared.reply.Offer.{Offer}
 use Rattle.omaha_json.specs.declared.request.AppAsk.{AppAsk}

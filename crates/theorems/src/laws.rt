@@ -19,7 +19,7 @@ pub fn replies()
 pub fn plans()
     ensures { PlansAreOne }
 {
-    records::version_laws::order();
+    catalogue::version_laws::order();
     catalogue_laws::histories::validity();
 }
 
@@ -27,7 +27,7 @@ pub fn plans()
 pub fn graphs()
     ensures { TrackGraphsAreGraphs }
 {
-    records::version_laws::order();
+    catalogue::version_laws::order();
 }
 
 // rule: Status of an update check
@@ -37,7 +37,7 @@ pub fn graphs()
 pub fn statuses()
     ensures { StatusesSay }
 {
-    records::version_laws::order();
+    catalogue::version_laws::order();
     catalogue_laws::histories::validity();
 }
 
@@ -47,7 +47,7 @@ pub fn statuses()
 pub fn steps()
     ensures { OffersAreSteps }
 {
-    records::version_laws::order();
+    catalogue::version_laws::order();
     catalogue_laws::histories::validity();
     cohorts::laws::cohort_texts();
 }
@@ -67,7 +67,7 @@ pub fn walk()
     ensures nowhere { WalksNeedChains }
     ensures track { WalksKeepTracks }
 {
-    records::version_laws::order();
+    catalogue::version_laws::order();
     catalogue_laws::histories::validity();
     cohorts::laws::cohort_texts();
 }

@@ -4,10 +4,10 @@ use Rattle.std.proofs.lemmas.Bool.{leb-false}
 use Rattle.catalogue.proofs.AcceptedLemmas.{None-from_not_some, NoneHold-first_fault, true-from_not}
 use Rattle.catalogue.specs.Edits.Apps.{tests_of_add_app}
 use Rattle.catalogue.specs.Faults.{first_fault}
-use Rattle.records.specs.Forms.{is_app_id, is_cohort_name}
-use Rattle.records.specs.Limits.{max_apps}
-use Rattle.records.specs.Lookups.{app_of}
-use Rattle.records.specs.declared.content.App.{App}
+use Rattle.catalogue.specs.Forms.{is_app_id, is_cohort_name}
+use Rattle.catalogue.specs.Limits.{max_apps}
+use Rattle.catalogue.specs.Lookups.{app_of}
+use Rattle.catalogue.specs.declared.content.App.{App}
 use Rattle.catalogue.specs.declared.edits.apps.AddApp.{AddApp}
 
 -- an accepted app: its identifier and its cohort's name are valid, it is new, there is room

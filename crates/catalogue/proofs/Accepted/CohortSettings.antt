@@ -2,18 +2,18 @@
 use Rattle.std.proofs.Common.{◌≡◌, ℕ, true, false, not, nat_le, List, Option, Some, None, refl, option_map}
 use Rattle.std.specs.Option.{is_none}
 use Rattle.std.proofs.lemmas.Bool.{or_parts}
-use Rattle.records.specs.Versions.{lenient_version_of}
+use Rattle.catalogue.specs.Versions.{lenient_version_of}
 use Rattle.catalogue.proofs.AcceptedLemmas.{NoneHold-first_fault, Some-from_not_none, true-from_not}
 use Rattle.catalogue.proofs.ValidCohortLemmas.{ValidCohort-from_test, is_valid_cohort-from_parts}
 use Rattle.catalogue.specs.Changes.{with_setting}
 use Rattle.catalogue.specs.Edits.CohortSettings.{is_unreleased, setting_of_set_target, tests_of_set_open, tests_of_set_rollback, tests_of_set_share, tests_of_set_target}
 use Rattle.catalogue.specs.Faults.{first_fault}
-use Rattle.records.specs.Limits.{max_share}
-use Rattle.records.specs.Lookups.{app_of, cohorts_of, has_cohort}
-use Rattle.records.specs.Validity.{is_valid_cohort, is_released}
-use Rattle.records.specs.declared.content.App.{App}
-use Rattle.records.specs.declared.content.Cohort.{Cohort}
-use Rattle.records.specs.declared.content.Release.{Release}
+use Rattle.catalogue.specs.Limits.{max_share}
+use Rattle.catalogue.specs.Lookups.{app_of, cohorts_of, has_cohort}
+use Rattle.catalogue.specs.Validity.{is_valid_cohort, is_released}
+use Rattle.catalogue.specs.declared.content.App.{App}
+use Rattle.catalogue.specs.declared.content.Cohort.{Cohort}
+use Rattle.catalogue.specs.declared.content.Release.{Release}
 use Rattle.catalogue.specs.declared.edits.cohort_settings.CohortSetting.{CohortSetting}
 use Rattle.catalogue.specs.declared.edits.cohort_settings.CohortSetting.TheVariants as setting
 use Rattle.catalogue.specs.declared.edits.cohort_settings.SetOpen.{SetOpen}

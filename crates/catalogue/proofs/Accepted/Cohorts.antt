@@ -4,10 +4,10 @@ use Rattle.std.proofs.lemmas.Bool.{leb-false}
 use Rattle.catalogue.proofs.AcceptedLemmas.{NoneHold-first_fault, Some-from_not_none, true-from_not}
 use Rattle.catalogue.specs.Edits.Cohorts.{tests_of_add_cohort}
 use Rattle.catalogue.specs.Faults.{first_fault}
-use Rattle.records.specs.Forms.{is_cohort_name}
-use Rattle.records.specs.Limits.{max_cohorts}
-use Rattle.records.specs.Lookups.{app_of, has_cohort}
-use Rattle.records.specs.declared.content.App.{App}
+use Rattle.catalogue.specs.Forms.{is_cohort_name}
+use Rattle.catalogue.specs.Limits.{max_cohorts}
+use Rattle.catalogue.specs.Lookups.{app_of, has_cohort}
+use Rattle.catalogue.specs.declared.content.App.{App}
 use Rattle.catalogue.specs.declared.edits.cohorts.AddCohort.{AddCohort}
 
 -- an accepted cohort: its app is there, its name is valid, it is new, there is room

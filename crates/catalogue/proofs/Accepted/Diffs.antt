@@ -2,15 +2,15 @@
 use Rattle.std.proofs.Common.{◌≡◌, ◌<◌, true, false, not, List, length, Some, None}
 use Rattle.std.specs.Option.{is_none}
 use Rattle.std.proofs.lemmas.Bool.{leb-false, or_parts}
-use Rattle.records.specs.Versions.{is_below, version_of, lenient_version_of}
+use Rattle.catalogue.specs.Versions.{is_below, version_of, lenient_version_of}
 use Rattle.catalogue.proofs.AcceptedLemmas.{None-from_not_some, NoneHold-first_fault, Some-from_not_none, true-from_not}
 use Rattle.catalogue.specs.Changes.{new_diff}
 use Rattle.catalogue.specs.Edits.Diffs.{tests_of_add_diff}
 use Rattle.catalogue.specs.Faults.{first_fault}
-use Rattle.records.specs.Forms.{hash_of, is_package_name, is_size}
-use Rattle.records.specs.Limits.{max_diffs}
-use Rattle.records.specs.Lookups.{app_of, declared_of, has_diff, has_release, pair_of}
-use Rattle.records.specs.declared.content.App.{App}
+use Rattle.catalogue.specs.Forms.{hash_of, is_package_name, is_size}
+use Rattle.catalogue.specs.Limits.{max_diffs}
+use Rattle.catalogue.specs.Lookups.{app_of, declared_of, has_diff, has_release, pair_of}
+use Rattle.catalogue.specs.declared.content.App.{App}
 use Rattle.catalogue.specs.declared.edits.diffs.AddDiff.{AddDiff}
 
 -- an accepted differential: its app and both releases are there, its strings and size are valid, it leads

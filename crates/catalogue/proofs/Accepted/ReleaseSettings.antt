@@ -1,16 +1,16 @@
 -- What is known of a setting that a release may be given.
 use Rattle.std.proofs.Common.{◌≡◌, ℕ, true, false, not, List, Some, None, refl}
 use Rattle.std.specs.Option.{is_none}
-use Rattle.records.specs.Versions.{lenient_version_of, version_of}
+use Rattle.catalogue.specs.Versions.{lenient_version_of, version_of}
 use Rattle.catalogue.proofs.AcceptedLemmas.{NoneHold-first_fault, Some-from_not_none, true-from_not}
 use Rattle.catalogue.proofs.ValidReleaseLemmas.{is_valid_release-audience}
 use Rattle.catalogue.specs.Changes.{with_release_setting}
 use Rattle.catalogue.specs.Edits.ReleaseSettings.{tests_of_set_audience, tests_of_set_floor, tests_of_set_stone, tests_of_set_withdrawn}
 use Rattle.catalogue.specs.Faults.{first_fault}
-use Rattle.records.specs.Lookups.{app_of, has_release, releases_of}
-use Rattle.records.specs.Validity.{is_valid_release}
-use Rattle.records.specs.declared.content.App.{App}
-use Rattle.records.specs.declared.content.Release.{Release}
+use Rattle.catalogue.specs.Lookups.{app_of, has_release, releases_of}
+use Rattle.catalogue.specs.Validity.{is_valid_release}
+use Rattle.catalogue.specs.declared.content.App.{App}
+use Rattle.catalogue.specs.declared.content.Release.{Release}
 use Rattle.catalogue.specs.declared.edits.release_settings.ReleaseSetting.{ReleaseSetting}
 use Rattle.catalogue.specs.declared.edits.release_settings.ReleaseSetting.TheVariants as setting
 use Rattle.catalogue.specs.declared.edits.release_settings.SetAudience.{SetAudience}

@@ -3,14 +3,14 @@ use Rattle.std.proofs.Common.{◌≡◌, ◌<◌, true, false, List, length, Som
 use Rattle.std.specs.List.{list_any}
 use Rattle.std.specs.Option.{is_none}
 use Rattle.std.proofs.lemmas.Bool.{leb-false}
-use Rattle.records.specs.Versions.{version_of, lenient_version_of}
+use Rattle.catalogue.specs.Versions.{version_of, lenient_version_of}
 use Rattle.catalogue.proofs.AcceptedLemmas.{None-from_not_some, NoneHold-first_fault, Some-from_not_none, true-from_not}
 use Rattle.catalogue.specs.Edits.Releases.{tests_of_add_release}
 use Rattle.catalogue.specs.Faults.{first_fault}
-use Rattle.records.specs.Forms.{hash_named, hash_of, is_package_name, is_size}
-use Rattle.records.specs.Limits.{max_releases}
-use Rattle.records.specs.Lookups.{app_of, declared_of, has_hash, has_release}
-use Rattle.records.specs.declared.content.App.{App}
+use Rattle.catalogue.specs.Forms.{hash_named, hash_of, is_package_name, is_size}
+use Rattle.catalogue.specs.Limits.{max_releases}
+use Rattle.catalogue.specs.Lookups.{app_of, declared_of, has_hash, has_release}
+use Rattle.catalogue.specs.declared.content.App.{App}
 use Rattle.catalogue.specs.declared.edits.releases.AddRelease.{AddRelease}
 
 -- an accepted release: its app is there, its strings and size are valid, it is new, there is room

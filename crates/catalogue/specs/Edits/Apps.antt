@@ -1,9 +1,9 @@
 -- The faults of an added app, in their order; this project's profile.
 use Rattle.std.specs.Prelude.{not, nat_le, Bool, List, [], ◌∷◌, length, is_some}
-use Rattle.records.specs.Forms.{is_app_id, is_cohort_name}
-use Rattle.records.specs.Limits.{max_apps}
-use Rattle.records.specs.Lookups.{app_of}
-use Rattle.records.specs.declared.content.App.{App}
+use Rattle.catalogue.specs.Forms.{is_app_id, is_cohort_name}
+use Rattle.catalogue.specs.Limits.{max_apps}
+use Rattle.catalogue.specs.Lookups.{app_of}
+use Rattle.catalogue.specs.declared.content.App.{App}
 use Rattle.catalogue.specs.declared.edits.apps.AddApp.{AddApp}
 use Rattle.catalogue.specs.declared.fault.Fault.{Fault}
 use Rattle.catalogue.specs.declared.fault.Fault.TheVariants as fault

@@ -1,11 +1,11 @@
 -- What may be set of a cohort, and the faults of each such edit in their order; this project's
 -- profile.
 use Rattle.std.specs.Prelude.{ℕ, ◌||◌, not, nat_le, Bool, false, List, [], ◌∷◌, Option, Some, None, is_none, option_map}
-use Rattle.records.specs.Versions.{version_of, lenient_version_of}
-use Rattle.records.specs.Limits.{max_share}
-use Rattle.records.specs.Lookups.{app_of, cohorts_of, has_cohort, has_release, releases_of}
-use Rattle.records.specs.declared.content.App.{App}
-use Rattle.records.specs.declared.content.Release.{Release}
+use Rattle.catalogue.specs.Versions.{version_of, lenient_version_of}
+use Rattle.catalogue.specs.Limits.{max_share}
+use Rattle.catalogue.specs.Lookups.{app_of, cohorts_of, has_cohort, has_release, releases_of}
+use Rattle.catalogue.specs.declared.content.App.{App}
+use Rattle.catalogue.specs.declared.content.Release.{Release}
 use Rattle.catalogue.specs.declared.edits.cohort_settings.CohortSetting.{CohortSetting}
 use Rattle.catalogue.specs.declared.edits.cohort_settings.CohortSetting.TheVariants as setting
 use Rattle.catalogue.specs.declared.edits.cohort_settings.SetOpen.{SetOpen}

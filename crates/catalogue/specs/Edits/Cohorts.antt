@@ -1,9 +1,9 @@
 -- The faults of an added cohort, in their order; this project's profile.
 use Rattle.std.specs.Prelude.{not, nat_le, Bool, List, [], ◌∷◌, length, is_none}
-use Rattle.records.specs.Forms.{is_cohort_name}
-use Rattle.records.specs.Limits.{max_cohorts}
-use Rattle.records.specs.Lookups.{app_of, cohorts_of, has_cohort}
-use Rattle.records.specs.declared.content.App.{App}
+use Rattle.catalogue.specs.Forms.{is_cohort_name}
+use Rattle.catalogue.specs.Limits.{max_cohorts}
+use Rattle.catalogue.specs.Lookups.{app_of, cohorts_of, has_cohort}
+use Rattle.catalogue.specs.declared.content.App.{App}
 use Rattle.catalogue.specs.declared.edits.cohorts.AddCohort.{AddCohort}
 use Rattle.catalogue.specs.declared.fault.Fault.{Fault}
 use Rattle.catalogue.specs.declared.fault.Fault.TheVariants as fault

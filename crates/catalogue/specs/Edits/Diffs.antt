@@ -1,10 +1,10 @@
 -- The faults of an added differential, in their order; this project's profile.
 use Rattle.std.specs.Prelude.{◌||◌, not, nat_le, Bool, List, [], ◌∷◌, length, is_some, is_none}
-use Rattle.records.specs.Versions.{is_below, version_of, lenient_version_of}
-use Rattle.records.specs.Forms.{is_package_name, hash_of, is_size}
-use Rattle.records.specs.Limits.{max_diffs}
-use Rattle.records.specs.Lookups.{app_of, declared_of, diffs_of, has_diff, has_release, releases_of}
-use Rattle.records.specs.declared.content.App.{App}
+use Rattle.catalogue.specs.Versions.{is_below, version_of, lenient_version_of}
+use Rattle.catalogue.specs.Forms.{is_package_name, hash_of, is_size}
+use Rattle.catalogue.specs.Limits.{max_diffs}
+use Rattle.catalogue.specs.Lookups.{app_of, declared_of, diffs_of, has_diff, has_release, releases_of}
+use Rattle.catalogue.specs.declared.content.App.{App}
 use Rattle.catalogue.specs.declared.edits.diffs.AddDiff.{AddDiff}
 use Rattle.catalogue.specs.declared.fault.Fault.{Fault}
 use Rattle.catalogue.specs.declared.fault.Fault.TheVariants as fault

@@ -1,11 +1,11 @@
 -- The faults of an added release, in their order; this project's profile.
 use Rattle.std.specs.Prelude.{not, nat_le, Bool, List, [], ◌∷◌, length, is_some, is_none}
 use Rattle.std.specs.List.{list_any}
-use Rattle.records.specs.Versions.{version_of, lenient_version_of}
-use Rattle.records.specs.Forms.{is_package_name, hash_named, hash_of, is_size}
-use Rattle.records.specs.Limits.{max_releases}
-use Rattle.records.specs.Lookups.{app_of, declared_of, has_hash, has_release, releases_of}
-use Rattle.records.specs.declared.content.App.{App}
+use Rattle.catalogue.specs.Versions.{version_of, lenient_version_of}
+use Rattle.catalogue.specs.Forms.{is_package_name, hash_named, hash_of, is_size}
+use Rattle.catalogue.specs.Limits.{max_releases}
+use Rattle.catalogue.specs.Lookups.{app_of, declared_of, has_hash, has_release, releases_of}
+use Rattle.catalogue.specs.declared.content.App.{App}
 use Rattle.catalogue.specs.declared.edits.releases.AddRelease.{AddRelease}
 use Rattle.catalogue.specs.declared.fault.Fault.{Fault}
 use Rattle.catalogue.specs.declared.fault.Fault.TheVariants as fault

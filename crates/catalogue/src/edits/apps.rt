@@ -2,12 +2,12 @@ ghost use Rattle.std.specs.Prelude.{◌≡◌};
 ghost use Rattle.std.specs.Result.{result_err};
 ghost use Rattle.catalogue.specs.Edits.Apps.{tests_of_add_app};
 ghost use Rattle.catalogue.specs.Faults.{first_fault};
-ghost use Rattle.records.specs.Validity.{IsValid};
+ghost use Rattle.catalogue.specs.Validity.{IsValid};
 
 use crate::draft::Draft;
 use crate::fault::Fault;
-use records::form::{is_app_id, is_cohort_name};
-use records::lookup::find_app;
+use crate::form::{is_app_id, is_cohort_name};
+use crate::lookup::find_app;
 use values::Text;
 
 const MAX_APPS: usize = 64;

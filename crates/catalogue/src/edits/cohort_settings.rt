@@ -3,17 +3,18 @@
 ghost use Rattle.std.specs.Prelude.{◌≡◌, true, option_map};
 ghost use Rattle.std.specs.Option.{option_copied};
 ghost use Rattle.std.specs.Result.{result_err};
-ghost use Rattle.records.specs.Versions.{lenient_version_of};
+ghost use Rattle.catalogue.specs.Versions.{lenient_version_of};
 ghost use Rattle.catalogue.specs.Changes.{with_setting};
 ghost use Rattle.catalogue.specs.Edits.CohortSettings.{is_misspelled, is_unreleased, setting_of_set_target, tests_of_set_open, tests_of_set_rollback, tests_of_set_share, tests_of_set_target};
 ghost use Rattle.catalogue.specs.Faults.{first_fault};
 ghost use Rattle.values.specs.Ordered.{ascend};
-ghost use Rattle.records.specs.Validity.{IsValid, is_release_below};
+ghost use Rattle.catalogue.specs.Validity.{IsValid, is_release_below};
 
+use crate::content::{Cohort, Release};
 use crate::draft::{Draft, named_cohort};
 use crate::fault::Fault;
-use records::lookup::has_release;
-use records::{Cohort, Release, Version};
+use crate::lookup::has_release;
+use crate::version::Version;
 use values::Text;
 
 const MAX_SHARE: u64 = 1000;

@@ -2,12 +2,12 @@ ghost use Rattle.std.specs.Prelude.{◌≡◌};
 ghost use Rattle.std.specs.Result.{result_err};
 ghost use Rattle.catalogue.specs.Edits.Cohorts.{tests_of_add_cohort};
 ghost use Rattle.catalogue.specs.Faults.{first_fault};
-ghost use Rattle.records.specs.Validity.{IsValid};
+ghost use Rattle.catalogue.specs.Validity.{IsValid};
 
 use crate::draft::Draft;
 use crate::fault::Fault;
-use records::form::is_cohort_name;
-use records::lookup::has_cohort;
+use crate::form::is_cohort_name;
+use crate::lookup::has_cohort;
 use values::Text;
 
 const MAX_COHORTS: usize = 32;

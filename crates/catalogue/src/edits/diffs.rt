@@ -3,12 +3,12 @@ ghost use Rattle.std.specs.Result.{result_err};
 ghost use Rattle.catalogue.specs.Draft.{IsIndexed};
 ghost use Rattle.catalogue.specs.Edits.Diffs.{tests_of_add_diff};
 ghost use Rattle.catalogue.specs.Faults.{first_fault};
-ghost use Rattle.records.specs.Validity.{IsValid};
+ghost use Rattle.catalogue.specs.Validity.{IsValid};
 
 use crate::draft::{Draft, named_release, spelled_version};
 use crate::fault::Fault;
-use records::form::{hash_of, is_package_name, is_size};
-use records::lookup::has_diff;
+use crate::form::{hash_of, is_package_name, is_size};
+use crate::lookup::has_diff;
 use values::Text;
 
 const MAX_DIFFS: usize = 16384;

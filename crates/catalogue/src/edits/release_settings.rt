@@ -4,18 +4,19 @@ ghost use Rattle.std.specs.Prelude.{◌≡◌, IfOk};
 ghost use Rattle.std.specs.List.{list_all};
 ghost use Rattle.std.specs.Option.{option_copied};
 ghost use Rattle.std.specs.Result.{result_err};
-ghost use Rattle.records.specs.Versions.{lenient_version_of};
+ghost use Rattle.catalogue.specs.Versions.{lenient_version_of};
 ghost use Rattle.catalogue.specs.Changes.{with_release_setting};
 ghost use Rattle.catalogue.specs.Edits.ReleaseSettings.{tests_of_set_audience, tests_of_set_floor, tests_of_set_stone, tests_of_set_withdrawn};
 ghost use Rattle.catalogue.specs.Faults.{first_fault};
-ghost use Rattle.records.specs.Lookups.{has_cohort};
-ghost use Rattle.records.specs.Validity.{IsValid, is_valid_audience};
+ghost use Rattle.catalogue.specs.Lookups.{has_cohort};
+ghost use Rattle.catalogue.specs.Validity.{IsValid, is_valid_audience};
 ghost use Rattle.catalogue.specs.declared.edits.release_settings.ReleaseSetting.TheVariants as setting;
 
+use crate::content::{Cohort, Release};
 use crate::draft::{Draft, named_release, spelled_version};
 use crate::fault::Fault;
-use records::lookup::has_cohort;
-use records::{Cohort, Release, Version};
+use crate::lookup::has_cohort;
+use crate::version::Version;
 use std::alloc::AllocError;
 use values::{Items, Text};
 

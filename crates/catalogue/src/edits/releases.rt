@@ -3,12 +3,12 @@ ghost use Rattle.std.specs.Result.{result_err};
 ghost use Rattle.catalogue.specs.Draft.{IsIndexed};
 ghost use Rattle.catalogue.specs.Edits.Releases.{tests_of_add_release};
 ghost use Rattle.catalogue.specs.Faults.{first_fault};
-ghost use Rattle.records.specs.Validity.{IsValid};
+ghost use Rattle.catalogue.specs.Validity.{IsValid};
 
 use crate::draft::{Draft, spelled_version};
 use crate::fault::Fault;
-use records::form::{hash_named, hash_of, is_package_name, is_size};
-use records::lookup::{has_hash, has_release};
+use crate::form::{hash_named, hash_of, is_package_name, is_size};
+use crate::lookup::{has_hash, has_release};
 use values::Text;
 
 const MAX_RELEASES: usize = 512;

@@ -1,7 +1,7 @@
 use Rattle.std.proofs.Common.{rules, ◌≡◌, ◌<◌, ◌++◌, [], ◌∷◌, List, ap, get_or, length, subst, sym, take, true, ◌∙◌}
 use Rattle.values.specs.Ordered.{ascend}
-use Rattle.records.specs.Validity.{is_release_below}
-use Rattle.records.specs.declared.content.App.{App}
+use Rattle.catalogue.specs.Validity.{is_release_below}
+use Rattle.catalogue.specs.declared.content.App.{App}
 use Rattle.operator_pages.specs.declared.sights.AppSight.{AppSight}
 use Rattle.app_sights.specs.Sights.{sight_by, sights_by}
 use Rattle.app_sights.proofs.SightLemmas.{releases-ascend, sights_by-more}

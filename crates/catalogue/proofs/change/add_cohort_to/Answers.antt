@@ -1,8 +1,8 @@
 use Rattle.std.proofs.Common.{sym, ap, List}
 use Rattle.values.proofs.ChangeLemmas.{change-Some, change-None}
 use Rattle.catalogue.specs.Changes.{with_cohort}
-use Rattle.records.specs.Lookups.{is_app}
-use Rattle.records.specs.declared.content.Cohort.{Cohort}
+use Rattle.catalogue.specs.Lookups.{is_app}
+use Rattle.catalogue.specs.declared.content.Cohort.{Cohort}
 use Rattle.catalogue.proofs.change.add_cohort_to.Goals as goal
 
 pub returns-in_ok-push_cohort : goal.returns-in_ok-push_cohort

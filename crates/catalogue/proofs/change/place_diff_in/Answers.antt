@@ -1,10 +1,10 @@
 use Rattle.std.proofs.Common.{sym, ap, List}
 use Rattle.std.proofs.lemmas.List.Quantifiers.{position-Some}
 use Rattle.values.proofs.ChangeLemmas.{change-Some, change-None}
-use Rattle.records.proofs.PlaceLemmas.{IsValidApp-item}
+use Rattle.catalogue.proofs.PlaceLemmas.{IsValidApp-item}
 use Rattle.catalogue.specs.Changes.{with_diff}
-use Rattle.records.specs.Lookups.{is_app}
-use Rattle.records.specs.declared.content.Diff.{Diff}
+use Rattle.catalogue.specs.Lookups.{is_app}
+use Rattle.catalogue.specs.declared.content.Diff.{Diff}
 use Rattle.catalogue.proofs.change.place_diff_in.Goals as goal
 
 pub returns-in_ok-place_diff : goal.returns-in_ok-place_diff

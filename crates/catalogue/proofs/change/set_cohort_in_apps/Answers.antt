@@ -1,8 +1,8 @@
 use Rattle.std.proofs.Common.{sym, ap, List}
 use Rattle.values.proofs.ChangeLemmas.{change-Some, change-None}
-use Rattle.records.specs.Lookups.{is_app}
+use Rattle.catalogue.specs.Lookups.{is_app}
 use Rattle.catalogue.specs.Changes.{in_cohort, with_setting}
-use Rattle.records.specs.declared.content.Cohort.{Cohort}
+use Rattle.catalogue.specs.declared.content.Cohort.{Cohort}
 use Rattle.catalogue.proofs.change.set_cohort_in_apps.Goals as goal
 
 pub returns-in-Some : goal.returns-in-Some

@@ -1,6 +1,6 @@
 use Rattle.std.proofs.Common.{sym}
 use Rattle.values.proofs.ChangeLemmas.{change-Some, change-None}
-use Rattle.records.specs.Lookups.{is_cohort}
+use Rattle.catalogue.specs.Lookups.{is_cohort}
 use Rattle.catalogue.specs.Changes.{with_setting}
 use Rattle.catalogue.proofs.change.set_in_cohorts.Goals as goal
 

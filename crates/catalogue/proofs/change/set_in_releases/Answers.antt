@@ -1,8 +1,8 @@
 use Rattle.std.proofs.Common.{◌≡◌, ◌∙◌, sym, ap, get_or, List}
 use Rattle.values.proofs.ChangeLemmas.{change-Some, change-None}
 use Rattle.catalogue.specs.Changes.{with_release_setting}
-use Rattle.records.specs.Lookups.{is_release}
-use Rattle.records.specs.declared.content.Release.{Release}
+use Rattle.catalogue.specs.Lookups.{is_release}
+use Rattle.catalogue.specs.declared.content.Release.{Release}
 use Rattle.catalogue.proofs.change.set_in_releases.Goals as goal
 
 pub returns-in_ok-replace : goal.returns-in_ok-replace

@@ -1,10 +1,10 @@
 use Rattle.std.proofs.Common.{sym, ap, List}
 use Rattle.std.proofs.lemmas.List.Quantifiers.{position-Some}
 use Rattle.values.proofs.ChangeLemmas.{change-Some, change-None}
-use Rattle.records.proofs.PlaceLemmas.{IsValidApp-item}
+use Rattle.catalogue.proofs.PlaceLemmas.{IsValidApp-item}
 use Rattle.catalogue.specs.Changes.{in_release, with_release_setting}
-use Rattle.records.specs.Lookups.{is_app}
-use Rattle.records.specs.declared.content.Release.{Release}
+use Rattle.catalogue.specs.Lookups.{is_app}
+use Rattle.catalogue.specs.declared.content.Release.{Release}
 use Rattle.catalogue.proofs.change.set_release_in_apps.Goals as goal
 
 pub returns-in_ok-set_in_releases : goal.returns-in_ok-set_in_releases

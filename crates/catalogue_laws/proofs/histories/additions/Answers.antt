@@ -2,7 +2,7 @@
 use Rattle.std.proofs.Common.{[]}
 use Rattle.std.specs.List.{list_any}
 use Rattle.catalogue_laws.specs.Histories.{adds_app, adds_cohort, adds_diff, adds_release, edits_of, same_diff, same_release}
-use Rattle.records.specs.Lookups.{cohorts_of, diffs_of, has_cohort, is_app, releases_of}
+use Rattle.catalogue.specs.Lookups.{cohorts_of, diffs_of, has_cohort, is_app, releases_of}
 use Rattle.catalogue_laws.proofs.AdditionLemmas.{any_app-after, any_cohort-after, any_diff-after, any_release-after}
 use Rattle.catalogue_laws.proofs.HistoryLemmas.{Makes-from_run, list_any-Makes}
 use Rattle.catalogue_laws.proofs.histories.additions.Goals as goal

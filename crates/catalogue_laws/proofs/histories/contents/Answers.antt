@@ -1,6 +1,6 @@
 -- The edits of a content add each item at the end of what is there.
 use Rattle.catalogue_laws.proofs.ContentLemmas.{outcome-edits_of_content}
-use Rattle.records.proofs.KeyLemmas.{VersionLaws}
+use Rattle.catalogue.proofs.KeyLemmas.{VersionLaws}
 use Rattle.catalogue_laws.proofs.histories.contents.Goals as goal
 
 pub returns : goal.returns

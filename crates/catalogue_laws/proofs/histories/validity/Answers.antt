@@ -2,7 +2,7 @@
 use Rattle.std.proofs.Common.{[]}
 use Rattle.catalogue_laws.specs.Histories.{edits_of}
 use Rattle.catalogue_laws.proofs.HistoryLemmas.{Makes-from_run}
-use Rattle.records.proofs.KeyLemmas.{VersionLaws}
+use Rattle.catalogue.proofs.KeyLemmas.{VersionLaws}
 use Rattle.catalogue.proofs.ValidityLemmas.{IsValid-empty}
 use Rattle.catalogue_laws.proofs.ValidHistoryLemmas.{IsValid-Makes}
 use Rattle.catalogue_laws.proofs.histories.validity.Goals as goal

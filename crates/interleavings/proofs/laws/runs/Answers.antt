@@ -1,8 +1,8 @@
 use Rattle.std.proofs.Common.{refl}
 use Rattle.hex.proofs.OnLiterals.{hex_on_literals}
 use Rattle.cohorts.specs.CohortTexts.{parsed}
-use Rattle.records.specs.Forms.{hash_of}
-use Rattle.records.specs.Versions as version
+use Rattle.catalogue.specs.Forms.{hash_of}
+use Rattle.catalogue.specs.Versions as version
 use Rattle.interleavings.proofs.laws.runs.Goals as goal
 
 pub returns : goal.returns

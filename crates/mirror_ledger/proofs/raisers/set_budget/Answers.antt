@@ -1,5 +1,5 @@
 use Rattle.std.proofs.Common.{◌∙◌, List, ap}
-use Rattle.records.specs.declared.mirror.Mirror.{Mirror}
+use Rattle.catalogue.specs.declared.mirror.Mirror.{Mirror}
 use Rattle.mirror_ledger.specs.Named.{budget_at}
 use Rattle.mirror_ledger.proofs.RaisingLemmas.{budget_at-other, budget_at-raised, raise_at-set}
 use Rattle.mirror_ledger.proofs.raisers.set_budget.Goals as goal

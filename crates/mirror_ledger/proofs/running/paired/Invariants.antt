@@ -1,7 +1,7 @@
 -- The pairs so far are of the jobs so far, with tills that are no longer left.
 use Rattle.std.proofs.Common.{◌≡◌, ◌++◌, All, Bool, List, length, map}
 use Rattle.std.specs.Vec.Iter.{into_iter_items, into_iter_len}
-use Rattle.records.specs.declared.mirror.Mirror.{Mirror}
+use Rattle.catalogue.specs.declared.mirror.Mirror.{Mirror}
 use Rattle.mirror_ledger.specs.Tills.{IsFresh}
 use Rattle.mirror_ledger.proofs.running.paired.Given as goal
 

@@ -1,5 +1,5 @@
 use Rattle.std.proofs.Common.{◌≡◌, ◌∙◌, ◌&&◌, ℕ, List, arith, length, map, nat_eq, not, refl, subst, vec_len}
-use Rattle.records.specs.declared.mirror.Mirror.{Mirror}
+use Rattle.catalogue.specs.declared.mirror.Mirror.{Mirror}
 use Rattle.mirror_ledger.specs.Tills.{AreFull}
 use Rattle.mirror_ledger.proofs.PairLemmas.{AreFresh}
 use Rattle.mirror_ledger.proofs.RejectedLemmas.{HadNoRoom-below}

@@ -1,6 +1,6 @@
 use Rattle.std.proofs.Common.{rules, ◌≡◌, ◌++◌, ◌+◌, ◌<◌, ◌∙◌, ap, drop, flat_map, get_or, length, string_bytes, sym, ℕ, List}
 use Rattle.std.specs.List.{zip}
-use Rattle.records.specs.declared.content.App.{App}
+use Rattle.catalogue.specs.declared.content.App.{App}
 use Rattle.operator_pages.specs.Sections.{app_section}
 use Rattle.operator_pages.specs.declared.sights.AppSight.{AppSight}
 use Rattle.operator_pages.proofs.ZipLemmas.{zip-end, zip-next}

@@ -1,6 +1,6 @@
 use Rattle.std.proofs.Common.{rules, ◌≡◌, ◌++◌, ◌+◌, ◌<◌, ◌∙◌, ap, drop, flat_map, get_or, length, string_bytes, sym, ℕ, List}
 use Rattle.std.specs.List.{zip}
-use Rattle.records.specs.declared.mirror.Mirror.{Mirror}
+use Rattle.catalogue.specs.declared.mirror.Mirror.{Mirror}
 use Rattle.operator_pages.specs.Spending.{mirror_line}
 use Rattle.operator_pages.proofs.ZipLemmas.{zip-end, zip-next}
 use Rattle.operator_pages.proofs.spending.push_mirrors.Goals as goal

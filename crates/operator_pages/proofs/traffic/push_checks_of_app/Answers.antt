@@ -1,6 +1,6 @@
 use Rattle.std.proofs.Common.{rules, ◌≡◌, ◌++◌, ◌+◌, ◌<◌, ◌∙◌, ap, drop, flat_map, get_or, length, string_bytes, sym, ℕ, List}
 use Rattle.std.specs.List.{zip}
-use Rattle.records.specs.declared.content.Cohort.{Cohort}
+use Rattle.catalogue.specs.declared.content.Cohort.{Cohort}
 use Rattle.tallies.specs.declared.totals.CheckTotals.{CheckTotals}
 use Rattle.operator_pages.specs.Traffic.{checks_of_cohort}
 use Rattle.operator_pages.proofs.ZipLemmas.{zip-end, zip-next}

@@ -1,7 +1,7 @@
 use Rattle.std.proofs.Common.{List, ◌++◌, map, sym, ap₂}
-use Rattle.records.specs.Lookups.{diff_package, full_package, packages_in}
-use Rattle.records.specs.declared.content.Diff.{Diff}
-use Rattle.records.specs.declared.content.Release.{Release}
+use Rattle.catalogue.specs.Lookups.{diff_package, full_package, packages_in}
+use Rattle.catalogue.specs.declared.content.Diff.{Diff}
+use Rattle.catalogue.specs.declared.content.Release.{Release}
 use Rattle.package_files.proofs.FindingLemmas.{Adds-next}
 use Rattle.package_files.proofs.comparing.compare_app.Goals as goal
 

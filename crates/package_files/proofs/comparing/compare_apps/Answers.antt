@@ -1,4 +1,4 @@
-use Rattle.records.specs.Lookups.{packages_in}
+use Rattle.catalogue.specs.Lookups.{packages_in}
 use Rattle.package_files.proofs.FindingLemmas.{Adds-part}
 use Rattle.package_files.proofs.comparing.compare_apps.Goals as goal
 

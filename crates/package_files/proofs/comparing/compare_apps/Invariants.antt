@@ -1,5 +1,5 @@
 use Rattle.std.proofs.Common.{take}
-use Rattle.records.specs.Lookups.{packages_of}
+use Rattle.catalogue.specs.Lookups.{packages_of}
 use Rattle.package_files.specs.Findings.{Adds}
 use Rattle.package_files.proofs.comparing.compare_apps.Given as goal
 

@@ -1,6 +1,6 @@
 use Rattle.std.proofs.Common.{ap, ◌∙◌}
-use Rattle.records.specs.Lookups.{diff_package}
-use Rattle.records.specs.declared.content.Diff.{Diff}
+use Rattle.catalogue.specs.Lookups.{diff_package}
+use Rattle.catalogue.specs.declared.content.Diff.{Diff}
 use Rattle.package_files.proofs.FindingLemmas.{Adds-item}
 use Rattle.package_files.proofs.comparing.compare_diffs.Goals as goal
 

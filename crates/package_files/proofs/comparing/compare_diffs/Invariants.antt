@@ -1,5 +1,5 @@
 use Rattle.std.proofs.Common.{map, take}
-use Rattle.records.specs.Lookups.{diff_package}
+use Rattle.catalogue.specs.Lookups.{diff_package}
 use Rattle.package_files.specs.Findings.{Adds}
 use Rattle.package_files.proofs.comparing.compare_diffs.Given as goal
 

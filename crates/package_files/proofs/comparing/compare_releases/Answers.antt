@@ -1,4 +1,4 @@
-use Rattle.records.specs.Lookups.{full_package}
+use Rattle.catalogue.specs.Lookups.{full_package}
 use Rattle.package_files.proofs.FindingLemmas.{Adds-item}
 use Rattle.package_files.proofs.comparing.compare_releases.Goals as goal
 

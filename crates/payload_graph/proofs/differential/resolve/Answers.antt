@@ -1,6 +1,6 @@
 use Rattle.std.proofs.Common.{inl, inr, sym, ap, ◌∙◌, arith}
 use Rattle.std.proofs.lemmas.Bool.{cases_eq}
-use Rattle.records.specs.declared.content.Diff.{Diff}
+use Rattle.catalogue.specs.declared.content.Diff.{Diff}
 use Rattle.payload_graph.specs.Chains.{index_of}
 use Rattle.payload_graph.proofs.WalkLemmas.{AreValid, HasWalked-more, ends_above}
 use Rattle.payload_graph.proofs.differential.resolve.Goals as goal

@@ -1,5 +1,5 @@
 use Rattle.std.proofs.Common.{sym, ◌∙◌}
-use Rattle.records.specs.Lookups.{releases_at}
+use Rattle.catalogue.specs.Lookups.{releases_at}
 use Rattle.payload_graph.proofs.FingerprintLemmas.{position-has_hash, position-no_fingerprint}
 use Rattle.payload_graph.proofs.fingerprint.find_fingerprint.Goals as goal
 

@@ -1,7 +1,7 @@
 use Rattle.std.proofs.Common.{◌≡◌, length, Some, refl, rules}
 use Rattle.std.specs.List.{slice_get}
 use Rattle.std.proofs.lemmas.Option.{slice_get_read}
-use Rattle.records.specs.Lookups.{releases_at}
+use Rattle.catalogue.specs.Lookups.{releases_at}
 use Rattle.payload_graph.proofs.FingerprintLemmas.{position-fingerprint}
 use Rattle.payload_graph.proofs.fingerprint.find_installed.Goals as goal
 

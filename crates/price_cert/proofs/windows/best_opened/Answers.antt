@@ -1,6 +1,6 @@
 use Rattle.std.proofs.Common.{◌≡◌, true, sym, subst}
 use Rattle.std.specs.List.{All}
-use Rattle.records.specs.Forms.{is_size}
+use Rattle.catalogue.specs.Forms.{is_size}
 use Rattle.payload_graph.specs.declared.edge.Edge.{Edge}
 use Rattle.payload_graph.specs.declared.edge.Kind.TheVariants as kind
 use Rattle.price_cert.proofs.OpeningLemmas.{All-sized-openings}

@@ -4,8 +4,8 @@ use Rattle.std.specs.Option.{option_map_or}
 use Rattle.std.proofs.lemmas.List.Folds.{find_at}
 use Rattle.std.proofs.lemmas.List.Quantifiers.{position-Some}
 use Rattle.std.proofs.lemmas.Option.{slice_get_past, slice_get_read}
-use Rattle.records.specs.Lookups.{is_release}
-use Rattle.records.specs.declared.content.Release.{Release}
+use Rattle.catalogue.specs.Lookups.{is_release}
+use Rattle.catalogue.specs.declared.content.Release.{Release}
 use Rattle.values.proofs.ChangeLemmas.{position_or_len-None, position_or_len-Some}
 use Rattle.profile_writer.proofs.release.spelling.Goals as goal
 

@@ -1,7 +1,7 @@
 use Rattle.std.proofs.Common.{not, rules}
 use Rattle.std.proofs.lemmas.List.Sorted.{IsPartitionPoint-from_clause}
-use Rattle.records.specs.Versions.{is_below}
-use Rattle.records.specs.declared.content.Release.{Release}
+use Rattle.catalogue.specs.Versions.{is_below}
+use Rattle.catalogue.specs.declared.content.Release.{Release}
 use Rattle.quotes.proofs.WindowLemmas.{IsPartitionedBy-not_above, not-false, not-true}
 use Rattle.quotes.proofs.outside.count_up_to.Goals as goal
 

@@ -2,7 +2,7 @@ use Rattle.std.proofs.Common.{◌≡◌, ℕ, Option, ap, ◌+◌, ◌||◌, ◌
 use Rattle.quotes.proofs.OutsideLemmas.{HasLooked, HasLooked-next}
 use Rattle.quotes.proofs.WindowLemmas.{HasLooked-start, IsBest-blocked, IsBest-end, no_stone_more}
 use Rattle.quotes.specs.Outside.{best_with, is_stone_above, sum_into}
-use Rattle.records.specs.Versions.{is_below}
+use Rattle.catalogue.specs.Versions.{is_below}
 use Rattle.quotes.proofs.outside.find_best.Goals.{in-Some, in_default, then-release+else-blocked, else-release}
 use Rattle.quotes.specs.declared.outside.Best.{Best}
 use Rattle.quotes.proofs.outside.find_best.Goals as goal

@@ -1,5 +1,5 @@
 use Rattle.std.proofs.Common.{List, length, subst, sym, ap, ◌∙◌, arith}
-use Rattle.records.specs.Lookups.{diffs_at, releases_at}
+use Rattle.catalogue.specs.Lookups.{diffs_at, releases_at}
 use Rattle.payload_graph.specs.declared.place.Place.TheVariants.{At}
 use Rattle.price_cert.specs.Rows.{row_at}
 use Rattle.price_cert.specs.declared.row.Row.{Row}

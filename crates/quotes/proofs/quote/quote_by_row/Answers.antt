@@ -1,5 +1,5 @@
 use Rattle.std.proofs.Common.{sym, ◌∙◌}
-use Rattle.records.specs.Lookups.{releases_at}
+use Rattle.catalogue.specs.Lookups.{releases_at}
 use Rattle.quotes.proofs.SameVersionLemmas.{HasVersion-position, quote-outside_among}
 use Rattle.quotes.proofs.quote.quote_by_row.Goals as goal
 

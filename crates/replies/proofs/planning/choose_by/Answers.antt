@@ -1,6 +1,6 @@
 use Rattle.std.proofs.Common.{Some, sym, ap, ◌∙◌, subst}
 use Rattle.std.proofs.lemmas.Option.{slice_get-get_or}
-use Rattle.records.specs.declared.content.App.{App}
+use Rattle.catalogue.specs.declared.content.App.{App}
 use Rattle.quotes.specs.Quotes.{IsQuoteAmong}
 use Rattle.quotes.specs.declared.quote.Quote.{Quote}
 use Rattle.replies.proofs.PlanLemmas.{IsChoice-next}

@@ -1,6 +1,6 @@
 use Rattle.std.proofs.Common.{length, sym, ap, ◌∙◌, subst, arith}
-use Rattle.records.specs.Validity.{IsValid}
-use Rattle.records.specs.declared.content.App.{App}
+use Rattle.catalogue.specs.Validity.{IsValid}
+use Rattle.catalogue.specs.declared.content.App.{App}
 use Rattle.reports.proofs.CountLemmas.{few_so_far}
 use Rattle.reports.specs.declared.counting.Counts.{Counts}
 use Rattle.reports.proofs.counting.counts_of.Goals as goal

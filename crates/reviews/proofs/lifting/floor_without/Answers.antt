@@ -1,5 +1,5 @@
 use Rattle.std.proofs.Common.{sym, ap, ◌∙◌}
-use Rattle.records.specs.Lookups.{place_of}
+use Rattle.catalogue.specs.Lookups.{place_of}
 use Rattle.reviews.specs.Lifts.{lifted_release}
 use Rattle.reviews.specs.declared.cause.Cause.{Cause}
 use Rattle.reviews.proofs.LiftLemmas.{floor-lifted}

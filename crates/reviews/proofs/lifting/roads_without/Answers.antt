@@ -5,7 +5,7 @@ use Rattle.cohorts.specs.declared.pin.Pin.TheVariants as pin
 use Rattle.payload_graph.specs.Net.{doors_of}
 use Rattle.payload_graph.specs.Soundness.{AreNumbered}
 use Rattle.payload_graph.specs.declared.door.Door.{Door}
-use Rattle.records.specs.declared.content.Release.{Release}
+use Rattle.catalogue.specs.declared.content.Release.{Release}
 use Rattle.reviews.specs.Lifts.{lifted_cohort, lifted_release, lifted_releases}
 use Rattle.reviews.proofs.ChainLemmas.{AreNumbered-doors_of, length-doors_of}
 use Rattle.reviews.proofs.LiftLemmas.{doors_of-lifted}

@@ -1,6 +1,6 @@
 use Rattle.std.proofs.Common.{◌≡◌, ℕ, ◌+◌, ◌<◌, List, get_or, length, sym, ap, ◌∙◌, subst, arith}
 use Rattle.std.proofs.lemmas.List.{length_push}
-use Rattle.records.specs.declared.content.Release.{Release}
+use Rattle.catalogue.specs.declared.content.Release.{Release}
 use Rattle.payload_graph.specs.declared.place.Place.TheVariants.{At}
 use Rattle.reviews.specs.Reasons.{IsReason}
 use Rattle.reviews.specs.Reviews.{AreOutcomes, IsOutcome}

@@ -1,6 +1,6 @@
 use Rattle.std.proofs.Common.{List, Ok, subst, sym}
 use Rattle.std.specs.Str.Parse.{digits_value}
-use Rattle.records.specs.declared.mirror.Mirror.{Mirror}
+use Rattle.catalogue.specs.declared.mirror.Mirror.{Mirror}
 use Rattle.service_desks.specs.Raises.{MayRaise}
 use Rattle.service_desks.proofs.MirrorLemmas.{AreMirrors-raises}
 use Rattle.service_desks.proofs.RaiseLemmas.{RaisesTo-spells}

@@ -1,7 +1,7 @@
 -- The names of the four ledgers: those of the blanks, with the mirrors' budgets, and so much more as they may be raised.
 use Rattle.std.proofs.Common.{◌+◌}
 use Rattle.mirror_ledger.specs.Named.{budget_at}
-use Rattle.records.specs.Mirrors.{max_budget}
+use Rattle.catalogue.specs.Mirrors.{max_budget}
 use Rattle.shared_rows.proofs.one_worker.asked_on.Given as goal
 
 abbrev pub ghosts-opened-A-Ledger : goal.ghosts-opened-A-Ledger

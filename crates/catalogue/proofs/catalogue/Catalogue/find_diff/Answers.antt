@@ -1,4 +1,4 @@
-use Rattle.records.proofs.PlaceLemmas.{ascend-diffs_at}
+use Rattle.catalogue.proofs.PlaceLemmas.{ascend-diffs_at}
 use Rattle.catalogue.proofs.catalogue.Catalogue.find_diff.Goals as goal
 
 pub index_of_diff-requires : goal.index_of_diff-requires

@@ -1,4 +1,4 @@
-use Rattle.records.proofs.PlaceLemmas.{ascend-releases_at}
+use Rattle.catalogue.proofs.PlaceLemmas.{ascend-releases_at}
 use Rattle.catalogue.proofs.catalogue.Catalogue.find_release.Goals as goal
 
 pub index_of_release-requires : goal.index_of_release-requires

@@ -2,9 +2,9 @@ use Rattle.std.proofs.Common.{◌≡◌, ◌∙◌, ap, sym, refl, List}
 use Rattle.catalogue.proofs.PackageLemmas.{declared_of-kept}
 use Rattle.catalogue.specs.Changes.{new_cohort, with_cohort}
 use Rattle.values.specs.Lists.{change}
-use Rattle.records.specs.Lookups.{declared_of, is_app}
-use Rattle.records.specs.declared.content.App.{App}
-use Rattle.records.specs.declared.content.Cohort.{Cohort}
+use Rattle.catalogue.specs.Lookups.{declared_of, is_app}
+use Rattle.catalogue.specs.declared.content.App.{App}
+use Rattle.catalogue.specs.declared.content.Cohort.{Cohort}
 use Rattle.catalogue.proofs.draft.Draft.add_cohort.Goals as goal
 
 pub returns : goal.returns

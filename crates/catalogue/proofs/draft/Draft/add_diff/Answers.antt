@@ -3,9 +3,9 @@ use Rattle.catalogue.proofs.PackageLemmas.{Indexes-with_diff}
 use Rattle.catalogue.specs.Changes.{new_diff, with_diff}
 use Rattle.values.specs.Lists.{change}
 use Rattle.catalogue.specs.Draft.{Indexes}
-use Rattle.records.specs.Lookups.{declared_of, is_app}
-use Rattle.records.specs.declared.content.App.{App}
-use Rattle.records.specs.declared.content.Diff.{Diff}
+use Rattle.catalogue.specs.Lookups.{declared_of, is_app}
+use Rattle.catalogue.specs.declared.content.App.{App}
+use Rattle.catalogue.specs.declared.content.Diff.{Diff}
 use Rattle.catalogue.proofs.draft.Draft.add_diff.Goals as goal
 
 pub returns : goal.returns

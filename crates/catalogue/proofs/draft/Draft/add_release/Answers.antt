@@ -3,9 +3,9 @@ use Rattle.catalogue.proofs.PackageLemmas.{Indexes-with_release}
 use Rattle.catalogue.specs.Changes.{new_release, with_release}
 use Rattle.values.specs.Lists.{change}
 use Rattle.catalogue.specs.Draft.{Indexes}
-use Rattle.records.specs.Lookups.{declared_of, is_app}
-use Rattle.records.specs.declared.content.App.{App}
-use Rattle.records.specs.declared.content.Release.{Release}
+use Rattle.catalogue.specs.Lookups.{declared_of, is_app}
+use Rattle.catalogue.specs.declared.content.App.{App}
+use Rattle.catalogue.specs.declared.content.Release.{Release}
 use Rattle.catalogue.proofs.draft.Draft.add_release.Goals as goal
 
 pub returns : goal.returns

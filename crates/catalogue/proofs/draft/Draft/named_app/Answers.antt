@@ -1,7 +1,7 @@
 use Rattle.std.proofs.Common.{◌≡◌, ◌∙◌, Some, sym, ap, List}
-use Rattle.records.proofs.PlaceLemmas.{IsValidApp-app_of}
-use Rattle.records.specs.Lookups.{app_of}
-use Rattle.records.specs.declared.content.App.{App}
+use Rattle.catalogue.proofs.PlaceLemmas.{IsValidApp-app_of}
+use Rattle.catalogue.specs.Lookups.{app_of}
+use Rattle.catalogue.specs.declared.content.App.{App}
 use Rattle.catalogue.proofs.draft.Draft.named_app.Goals as goal
 
 pub returns-in-Some-clause-ascending : goal.returns-in-Some-clause-ascending

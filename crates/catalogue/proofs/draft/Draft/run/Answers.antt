@@ -1,6 +1,6 @@
 use Rattle.std.proofs.Common.{arith, sym}
 use Rattle.std.proofs.lemmas.Grind.{common_steps}
-use Rattle.records.proofs.KeyLemmas.{VersionLaws}
+use Rattle.catalogue.proofs.KeyLemmas.{VersionLaws}
 use Rattle.catalogue.proofs.ValidityLemmas.{IsValid-after}
 use Rattle.catalogue.proofs.draft.Draft.run.Goals as goal
 

@@ -1,7 +1,7 @@
 use Rattle.std.proofs.Common.{◌≡◌, drop}
 use Rattle.catalogue.specs.Batches.{outcome, outcome_from}
 use Rattle.catalogue.specs.Draft.{IsIndexed}
-use Rattle.records.specs.Validity.{IsValid}
+use Rattle.catalogue.specs.Validity.{IsValid}
 use Rattle.catalogue.proofs.draft.Draft.run.Given as goal
 
 abbrev pub invariant-loop-index : goal.invariant-loop-index

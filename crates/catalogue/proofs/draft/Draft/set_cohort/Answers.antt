@@ -1,8 +1,8 @@
 use Rattle.std.proofs.Common.{◌∙◌, ap, sym, refl, List}
 use Rattle.catalogue.proofs.PackageLemmas.{declared_of-kept}
 use Rattle.catalogue.specs.Changes.{in_cohort, with_setting}
-use Rattle.records.specs.Lookups.{declared_of}
-use Rattle.records.specs.declared.content.App.{App}
+use Rattle.catalogue.specs.Lookups.{declared_of}
+use Rattle.catalogue.specs.declared.content.App.{App}
 use Rattle.catalogue.proofs.draft.Draft.set_cohort.Goals as goal
 
 pub returns : goal.returns

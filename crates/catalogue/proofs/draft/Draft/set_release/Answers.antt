@@ -1,10 +1,10 @@
 use Rattle.std.proofs.Common.{◌≡◌, ◌∙◌, ap, sym, refl, List, ℕ}
-use Rattle.records.specs.Versions.{lenient_version_of}
+use Rattle.catalogue.specs.Versions.{lenient_version_of}
 use Rattle.catalogue.proofs.PackageLemmas.{declared_of-kept_in_release}
 use Rattle.catalogue.specs.Changes.{in_release, with_release_setting}
 use Rattle.values.specs.Lists.{change}
-use Rattle.records.specs.Lookups.{declared_of, is_app}
-use Rattle.records.specs.declared.content.App.{App}
+use Rattle.catalogue.specs.Lookups.{declared_of, is_app}
+use Rattle.catalogue.specs.declared.content.App.{App}
 use Rattle.catalogue.proofs.draft.Draft.set_release.Goals as goal
 
 pub returns : goal.returns

@@ -1,6 +1,6 @@
 use Rattle.std.proofs.Common.{◌≡◌, ap, ◌∙◌, get_or, rules}
 use Rattle.cohorts.specs.Tracks.{bucket_of, cohort_at, session_bucket, track_in}
-use Rattle.records.specs.Lookups.{cohorts_at, releases_at}
+use Rattle.catalogue.specs.Lookups.{cohorts_at, releases_at}
 use Rattle.cohorts.proofs.TrackLemmas.{named_bucket, named_bucket-small, there-cohort_at}
 use Rattle.cohorts.proofs.session.Session.assign.Goals as goal
 

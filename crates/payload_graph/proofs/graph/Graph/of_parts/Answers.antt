@@ -1,7 +1,7 @@
 use Rattle.std.proofs.Common.{◌≡◌, true, subst, length, ap, sym, ◌∙◌, arith, rules}
 use Rattle.std.proofs.lemmas.List.Elements.{All-filter}
 use Rattle.std.proofs.lemmas.List.Kept.{IsNonDecreasingBy-filter}
-use Rattle.records.specs.Forms.{is_size}
+use Rattle.catalogue.specs.Forms.{is_size}
 use Rattle.payload_graph.proofs.ReachedLemmas.{All-reached}
 use Rattle.payload_graph.specs.Soundness.{AreResolved, is_reached}
 use Rattle.payload_graph.specs.declared.edge.Edge.{Edge}

@@ -1,5 +1,5 @@
 use Rattle.std.proofs.Common.{List, ap, false, refl, subst}
-use Rattle.records.specs.declared.mirror.Mirror.{Mirror}
+use Rattle.catalogue.specs.declared.mirror.Mirror.{Mirror}
 use Rattle.service_desks.specs.Raises.{Replays}
 use Rattle.restarts.specs.Restarting.{Found}
 use Rattle.restarts.proofs.restoring.Draft.add_raise.Goals as goal

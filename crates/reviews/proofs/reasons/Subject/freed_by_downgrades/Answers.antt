@@ -1,7 +1,7 @@
 use Rattle.std.proofs.Common.{◌≡◌, List, Some, true, get_or, length, replicate, refl, sym, ap, ◌∙◌, subst, rules}
 use Rattle.std.specs.List.{slice_get}
 use Rattle.std.proofs.lemmas.Option.{slice_get_read}
-use Rattle.records.specs.declared.content.Release.{Release}
+use Rattle.catalogue.specs.declared.content.Release.{Release}
 use Rattle.reviews.specs.Lifts.{is_open_way}
 use Rattle.reviews.specs.Reasons.{AreFreedAs}
 use Rattle.reviews.specs.declared.cause.Cause.TheVariants.{Downgrade}

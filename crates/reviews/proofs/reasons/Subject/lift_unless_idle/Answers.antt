@@ -1,6 +1,6 @@
 use Rattle.std.proofs.Common.{◌≡◌, ℕ, List, true, get_or, sym, ap, ◌∙◌}
 use Rattle.std.proofs.lemmas.Option.{get_or_from_slice_get}
-use Rattle.records.specs.declared.content.Release.{Release}
+use Rattle.catalogue.specs.declared.content.Release.{Release}
 use Rattle.reviews.specs.Lifts.{is_idle, target_version}
 use Rattle.reviews.proofs.IdleLemmas.{AreFirst-idle}
 use Rattle.reviews.proofs.LiftLemmas.{HasRelease-target, IsLifted-track}

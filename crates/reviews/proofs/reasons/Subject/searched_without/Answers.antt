@@ -1,6 +1,6 @@
 use Rattle.std.proofs.Common.{List, ap, ◌∙◌}
 use Rattle.std.specs.List.{slice_get}
-use Rattle.records.specs.declared.content.Release.{Release}
+use Rattle.catalogue.specs.declared.content.Release.{Release}
 use Rattle.cohorts.specs.declared.pin.Pin.TheVariants as pin
 use Rattle.payload_graph.specs.Net.{doors_of}
 use Rattle.reviews.specs.Lifts.{lifted_cohort, lifted_releases}

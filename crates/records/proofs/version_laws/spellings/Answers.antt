@@ -1,5 +1,0 @@
-use Rattle.records.proofs.SpellingLemmas.{lenient_version_of-plain}
-use Rattle.records.proofs.version_laws.spellings.Goals as goal
-
-pub returns : goal.returns
-returns c = lenient_version_of-plain
