@@ -1,10 +1,13 @@
 pub mod Batches
 pub mod Changes
+pub mod ContentExamples
+pub mod Contents
 pub mod Draft
 pub mod Edits
 pub mod FaultStrings
 pub mod Faults
 pub mod Forms
+pub mod Histories
 pub mod Limits
 pub mod Lookups
 pub mod Mirrors

@@ -5,7 +5,7 @@
 //! `specs/Batches.antt` for the meaning of a batch, `specs/Edits.antt` for the faults of each edit in
 //! their order and the change that it makes, and `specs/Changes.antt` for the kinds of change. The
 //! records and what is true of every catalogue are in `records`, the laws of whole histories in
-//! `catalogue_laws`.
+//! `catalogue`.
 //!
 //! It does not decide which release a client is offered, nor read profiles: crates above do.
 //!
@@ -26,6 +26,14 @@
 //! `specs/Versions.antt`; `laws` has what holds of them.
 //!
 //! It does not keep a version's spelling: whoever prints a release keeps the string beside it.
+//!
+//! What holds over whole histories of batches, and of whole contents, each law as the contract of a
+//! function that does nothing when it runs.
+//!
+//! Read `specs/Histories.antt` for the laws of histories and `specs/Contents.antt` for the edits that
+//! make a content anew. A crate that needs a law calls its function.
+//!
+//! It says nothing of a single batch: `catalogue` does.
 
 #![tactic(auto)]
 
@@ -37,6 +45,7 @@ mod edit;
 mod edits;
 mod fault;
 pub mod form;
+pub mod histories;
 pub mod lookup;
 mod mirror;
 mod package_index;

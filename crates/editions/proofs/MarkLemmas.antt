@@ -15,7 +15,7 @@ use Rattle.catalogue.specs.declared.content.Diff.{Diff}
 use Rattle.catalogue.specs.declared.content.Release.{Release}
 use Rattle.catalogue.specs.Batches.{outcome}
 use Rattle.catalogue.specs.declared.edit.Edit.{Edit}
-use Rattle.catalogue_laws.specs.Histories.{changes_releases_of, BatchesKeepOtherReleases}
+use Rattle.catalogue.specs.Histories.{changes_releases_of, BatchesKeepOtherReleases}
 use Rattle.par_tables.specs.Marks.{KeepsOthers, Marks}
 use Rattle.par_tables.specs.Sources.{Source, cohort_read, source_at, source_in, source_of}
 use Rattle.editions.specs.Marks.{AreEach, AreMarksOf, cohorts_left, may_change, same_cohort, same_flag, same_target}

@@ -3,7 +3,7 @@ use Rattle.std.proofs.Common.{◌≡◌, ℕ, List, Option, None, Some, refl, sy
 use Rattle.std.specs.List.{All, Contains, slice_get}
 use Rattle.std.specs.Option.{option_and_then, option_map, IfSome}
 use Rattle.std.proofs.lemmas.List.Elements.{All-contains}
-use Rattle.catalogue_laws.specs.Histories.{History, LeadsTo}
+use Rattle.catalogue.specs.Histories.{History, LeadsTo}
 use Rattle.catalogue.specs.declared.content.App.{App}
 use Rattle.catalogue.specs.declared.content.Cohort.{Cohort}
 use Rattle.payload_graph.specs.Chains.{cohort_target}

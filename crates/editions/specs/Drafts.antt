@@ -1,6 +1,6 @@
 -- The next edition, of which the tables are not made yet.
 use Rattle.std.specs.Prelude.{◌≡◌, ◌<◌, List, length, Ok}
-use Rattle.catalogue_laws.specs.Histories.{History}
+use Rattle.catalogue.specs.Histories.{History}
 use Rattle.catalogue.specs.declared.edit.Edit.{Edit}
 use Rattle.par_tables.specs.Marks.{KeepsOthers}
 use Rattle.editions.specs.Editions.{content_of, max_batches, outcome_after}

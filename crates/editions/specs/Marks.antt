@@ -6,7 +6,7 @@ use Rattle.catalogue.specs.Lookups.{cohorts_at}
 use Rattle.catalogue.specs.declared.content.App.{App}
 use Rattle.catalogue.specs.declared.content.Cohort.{Cohort}
 use Rattle.catalogue.specs.declared.edit.Edit.{Edit}
-use Rattle.catalogue_laws.specs.Histories.{changes_releases_of}
+use Rattle.catalogue.specs.Histories.{changes_releases_of}
 
 -- the cohorts before a batch of an app whose releases and differentials no edit of it changes; none of another app
 abbrev pub cohorts_left : List App → List Edit → ℕ → List Cohort

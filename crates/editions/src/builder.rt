@@ -24,7 +24,7 @@ pub struct EditionBuilder {
 impl Model for EditionBuilder {
     ghost use Rattle.std.specs.Prelude.{map};
     ghost use Rattle.std.specs.Arc.{arc_value};
-    ghost use Rattle.catalogue_laws.specs.Histories.{History};
+    ghost use Rattle.catalogue.specs.Histories.{History};
     ghost use Rattle.editions.specs.Editions.{IsLed};
 
     ghost Value = { History };
@@ -54,7 +54,7 @@ impl EditionBuilder {
         ensures ok { MatchResult result (λ _. Continues self.old batch (Ok self.new)) (λ _. self.new ≡ self.old) }
         ensures err { IfErr result (λ error. Continues self.old batch (Err error)) }
     {
-        catalogue_laws::histories::growth();
+        catalogue::histories::growth();
         let made = self.catalogue.applied(&batch)?;
         if self.batches.len() >= MAX_BATCHES {
             return Err(NextError::HistoryFull);

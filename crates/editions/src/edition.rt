@@ -1,6 +1,6 @@
 ghost use Rattle.std.specs.Prelude.{◌≡◌, ◌≤◌, [], ◌∷◌, ◌++◌, Err, IfErr, IfOk, IfSome, length, map, option_map};
 ghost use Rattle.std.specs.Arc.{arc_value};
-ghost use Rattle.catalogue_laws.specs.Histories.{LeadsTo};
+ghost use Rattle.catalogue.specs.Histories.{LeadsTo};
 ghost use Rattle.payload_graph.specs.Net.{net_among};
 ghost use Rattle.par_tables.specs.Marks.{AreTablesFor, KeepsOthers};
 ghost use Rattle.par_tables.specs.Tables.{AreTables};
@@ -36,7 +36,7 @@ pub struct Edition {
 impl Model for Edition {
     ghost use Rattle.std.specs.Prelude.{map};
     ghost use Rattle.std.specs.Arc.{arc_value};
-    ghost use Rattle.catalogue_laws.specs.Histories.{History};
+    ghost use Rattle.catalogue.specs.Histories.{History};
 
     ghost Value = { History };
 
@@ -191,7 +191,7 @@ impl Edition {
         requires built { AreTablesFor draft.made draft.marks.items built.now }
         ensures { Continues self.now batch result }
     {
-        catalogue_laws::histories::growth();
+        catalogue::histories::growth();
         let tables = next_tables(self.alloc, &self.catalogue, &self.tables, &draft, built)?;
         let batches = followed(self.alloc, &self.batches, batch)?;
         let Draft { made, marks: _ } = draft;

@@ -3,7 +3,7 @@
 ghost use Rattle.std.specs.Prelude.{◌≡◌, IfOk, Ok, length};
 ghost use Rattle.catalogue.specs.Forms.{same_id};
 ghost use Rattle.catalogue.specs.Batches.{outcome};
-ghost use Rattle.catalogue_laws.specs.Histories.{app_named, changes_releases, changes_releases_of};
+ghost use Rattle.catalogue.specs.Histories.{app_named, changes_releases, changes_releases_of};
 ghost use Rattle.par_tables.specs.Marks.{KeepsOthers};
 ghost use Rattle.editions.specs.Marks.{cohorts_left, may_change, same_cohort, same_target, AreEach, AreMarksOf, IsMark};
 
@@ -133,7 +133,7 @@ pub(crate) fn marks_of(
     ensures marks { IfOk result (λ marks. AreEach (AreMarksOf before.now batch.now made.now) (length made.now) marks.items) }
     ensures kept { IfOk result (λ marks. KeepsOthers before.now made.now marks.items) }
 {
-    catalogue_laws::histories::other_releases();
+    catalogue::histories::other_releases();
     let mut marks = Vec::with_capacity(alloc, made.apps().len())?;
     for index in 0..made.apps().len() {
         let own = marks_of_app(

@@ -3,7 +3,7 @@ use Rattle.std.proofs.Common.{◌≡◌, ℕ, ◌+◌, ◌<◌, ◌≤◌, ◌&&
 use Rattle.std.specs.List.{AllByRecursion, slice_get}
 use Rattle.std.specs.Option.{is_none}
 use Rattle.std.proofs.lemmas.Bool.{and_from, cond-true, false≢true}
-use Rattle.catalogue_laws.specs.Histories.{History}
+use Rattle.catalogue.specs.Histories.{History}
 use Rattle.mirror_ledger.specs.Asks.{Ask, granted_at}
 use Rattle.mirror_ledger.specs.Budgets.{Account}
 use Rattle.omaha_json.specs.declared.request.Request.{Request}

@@ -8,7 +8,7 @@ use Rattle.std.proofs.lemmas.Option.{same_Some}
 use Rattle.catalogue.specs.Batches.{outcome, then_run}
 use Rattle.catalogue.specs.declared.edit.Edit.{Edit}
 use Rattle.catalogue.specs.declared.fault.Refused.{Refused}
-use Rattle.catalogue_laws.specs.Histories.{HistoriesAreValid, HistoriesGrow, History, PrefixesAreAccepted}
+use Rattle.catalogue.specs.Histories.{HistoriesAreValid, HistoriesGrow, History, PrefixesAreAccepted}
 use Rattle.editions.specs.Editions.{max_batches, outcome_after}
 use Rattle.mirror_ledger.specs.Asks.{booked}
 use Rattle.mirror_ledger.specs.Budgets.{Account}

@@ -4,7 +4,7 @@ use Rattle.std.specs.List.{All, AllZip, zip}
 use Rattle.std.specs.Option.{IfSome, MatchOption, option_and_then, option_map}
 use Rattle.std.proofs.lemmas.List.Elements.{All-weaker}
 use Rattle.std.proofs.lemmas.Option.{IfSome_then, none-some}
-use Rattle.catalogue_laws.specs.Histories.{History}
+use Rattle.catalogue.specs.Histories.{History}
 use Rattle.editions.specs.Editions.{content_of}
 use Rattle.omaha_json.specs.declared.reply.AppReply.{AppReply}
 use Rattle.omaha_json.specs.declared.reply.CheckReply.{CheckReply}

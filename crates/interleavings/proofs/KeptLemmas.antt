@@ -6,7 +6,7 @@ use Rattle.std.proofs.lemmas.List.{append-nil, length-append, take-append-drop, 
 use Rattle.std.proofs.lemmas.Option.{IfSome_then, none-some}
 use Rattle.catalogue.specs.Batches.{run}
 use Rattle.catalogue.specs.declared.fault.Refused.{Refused}
-use Rattle.catalogue_laws.specs.Histories.{HistoriesAreValid, History, LeadsTo, PrefixesAreAccepted}
+use Rattle.catalogue.specs.Histories.{HistoriesAreValid, History, LeadsTo, PrefixesAreAccepted}
 use Rattle.editions.specs.Editions.{content_of, content_or_none}
 use Rattle.catalogue.specs.Validity.{IsValid}
 use Rattle.catalogue.specs.declared.content.App.{App}

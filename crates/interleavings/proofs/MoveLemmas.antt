@@ -5,7 +5,7 @@ use Rattle.std.specs.Option.{IfSome, is_none, option_map, option_map_or, option_
 use Rattle.std.proofs.lemmas.Bool.{and_parts, cond_both, leb-true}
 use Rattle.std.proofs.lemmas.List.{append-nil, map-append}
 use Rattle.std.proofs.lemmas.List.Sums.{sum_by_push}
-use Rattle.catalogue_laws.specs.Histories.{HistoriesAreValid, History, LeadsTo}
+use Rattle.catalogue.specs.Histories.{HistoriesAreValid, History, LeadsTo}
 use Rattle.mirror_ledger.specs.Asks.{booked}
 use Rattle.omaha_json.specs.declared.request.Request.{Request}
 use Rattle.quotes.specs.ByRows.{CertifiedRowsQuote}

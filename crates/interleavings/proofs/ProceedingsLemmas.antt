@@ -3,7 +3,7 @@ use Rattle.std.proofs.Common.{◌≡◌, ℕ, zero, suc, ◌<◌, ◌≤◌, inl
 use Rattle.std.specs.List.{AllZip}
 use Rattle.std.specs.Prelude.{codes, slice_index}
 use Rattle.hex.proofs.OnLiterals.{hex_on_literals}
-use Rattle.catalogue_laws.specs.Histories.{History, LeadsTo}
+use Rattle.catalogue.specs.Histories.{History, LeadsTo}
 use Rattle.cohorts.specs.CohortTexts.{parsed}
 use Rattle.editions.specs.Editions.{content_of}
 use Rattle.mirror_ledger.specs.Asks.{Ask}

@@ -1,6 +1,6 @@
 -- Each event keeps by which events the jobs of each worker began, were planned and ended.
 use Rattle.std.proofs.Common.{◌≡◌, ℕ, zero, suc, ◌⊎◌, inl, inr, eqb, List, [], ◌∷◌, ◌++◌, length, replicate, ◌+◌, None, Some, refl, sym, ap, ◌∙◌, append_assoc, subst}
-use Rattle.catalogue_laws.specs.Histories.{History}
+use Rattle.catalogue.specs.Histories.{History}
 use Rattle.std.specs.List.{slice_get}
 use Rattle.std.proofs.lemmas.Bool.{cond_both}
 use Rattle.std.proofs.lemmas.List.{append-nil}

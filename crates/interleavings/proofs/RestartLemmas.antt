@@ -9,8 +9,8 @@ use Rattle.std.proofs.lemmas.List.{append_cancel_left}
 use Rattle.std.proofs.lemmas.List.Elements.{length_all_zip}
 use Rattle.catalogue.specs.Batches.{run, then_run}
 use Rattle.catalogue.specs.declared.fault.Refused.{Refused}
-use Rattle.catalogue_laws.specs.Contents.{edits_of_content}
-use Rattle.catalogue_laws.specs.Histories.{History}
+use Rattle.catalogue.specs.Contents.{edits_of_content}
+use Rattle.catalogue.specs.Histories.{History}
 use Rattle.editions.specs.Editions.{content_of, content_or_none}
 use Rattle.mirror_ledger.specs.Asks.{Ask}
 use Rattle.mirror_ledger.specs.Budgets.{Account}

@@ -3,7 +3,7 @@ use Rattle.std.proofs.Common.{List, [], ◌∷◌, length, map, Option, None, So
 use Rattle.std.specs.List.{AllByRecursion, flat_map}
 use Rattle.std.specs.Option.{option_map_or}
 use Rattle.std.proofs.lemmas.List.Elements.{All-from_recursion, recursion_from_All}
-use Rattle.catalogue_laws.specs.Histories.{History}
+use Rattle.catalogue.specs.Histories.{History}
 use Rattle.http_desks.specs.Calls.{Call}
 use Rattle.omaha_json.specs.ReplyWriting.{reply_bytes}
 use Rattle.catalogue.specs.declared.mirror.Mirror.{Mirror}

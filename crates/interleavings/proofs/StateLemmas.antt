@@ -6,7 +6,7 @@ use Rattle.std.proofs.lemmas.Bool.{and_from, cond-false, cond-true, eq-eqb, fals
 use Rattle.std.proofs.lemmas.List.{append-nil, length-append}
 use Rattle.std.proofs.lemmas.List.Sums.{sum_by-cons, sum_by_push}
 use Rattle.std.proofs.lemmas.Option.{none-some, same_Some}
-use Rattle.catalogue_laws.specs.Histories.{History}
+use Rattle.catalogue.specs.Histories.{History}
 use Rattle.mirror_ledger.specs.Asks.{Ask, booked, granted_at}
 use Rattle.mirror_ledger.specs.Budgets.{Account}
 use Rattle.mirror_ledger.specs.Order.{HasRoomAt, IsFirstWithRoom}

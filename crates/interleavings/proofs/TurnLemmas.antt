@@ -3,7 +3,7 @@ use Rattle.std.proofs.Common.{◌≡◌, ℕ, ◌&&◌, leb, max, List, [], ◌�
 use Rattle.std.specs.List.{slice_get}
 use Rattle.std.specs.Option.{IfSome, is_none, option_map, option_map_or}
 use Rattle.std.proofs.lemmas.Bool.{and_parts, cond_both}
-use Rattle.catalogue_laws.specs.Histories.{History}
+use Rattle.catalogue.specs.Histories.{History}
 use Rattle.omaha_json.specs.declared.request.Request.{Request}
 use Rattle.catalogue.specs.declared.mirror.Mirror.{Mirror}
 use Rattle.interleavings.specs.Choices.{Tables, are_certified}

@@ -6,7 +6,7 @@ use Rattle.std.proofs.lemmas.Bool.{eq-eqb}
 use Rattle.std.proofs.lemmas.List.{append-nil, append_cancel_left, length-map}
 use Rattle.std.proofs.lemmas.List.Elements.{All-from_recursion, All-nil, filter_map-append}
 use Rattle.std.proofs.lemmas.List.Sums.{sum_by-cons}
-use Rattle.catalogue_laws.specs.Histories.{History}
+use Rattle.catalogue.specs.Histories.{History}
 use Rattle.editions.specs.Editions.{content_of}
 use Rattle.http_desks.specs.Calls.{Asks, Call, Looks, Shows}
 use Rattle.http_desks.specs.declared.desk.DeskStatus.{DeskStatus}

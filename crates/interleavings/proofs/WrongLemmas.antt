@@ -8,7 +8,7 @@ use Rattle.std.proofs.lemmas.List.Elements.{All-contains, All-from_recursion}
 use Rattle.hex.proofs.OnLiterals.{hex_on_literals}
 use Rattle.catalogue.specs.declared.edit.Edit.{Edit}
 use Rattle.catalogue.specs.declared.fault.Refused.{Refused}
-use Rattle.catalogue_laws.specs.Histories.{History}
+use Rattle.catalogue.specs.Histories.{History}
 use Rattle.cohorts.specs.CohortTexts.{parsed}
 use Rattle.catalogue.specs.Batches.{run as run_batches}
 use Rattle.editions.specs.Editions.{content_of}

@@ -4,7 +4,7 @@ use Rattle.catalogue.specs.declared.mirror.Mirror.{Mirror}
 use Rattle.std.specs.List.{AllZip, zip}
 use Rattle.std.specs.Option.{IfSome, option_map_or}
 use Rattle.hex.proofs.OnLiterals.{hex_on_literals}
-use Rattle.catalogue_laws.specs.Histories.{History}
+use Rattle.catalogue.specs.Histories.{History}
 use Rattle.cohorts.specs.CohortTexts.{parsed}
 use Rattle.omaha_json.specs.declared.reply.AppReply.{AppReply}
 use Rattle.omaha_json.specs.declared.reply.Offer.{Offer}

@@ -1,6 +1,6 @@
 -- By which events the jobs of a worker began, and by which batches each goes.
 use Rattle.std.specs.Prelude.{◌≡◌, ℕ, List, [], ◌∷◌, ◌++◌, IfSome, length, slice_get, take, Option, None, Some, option_map}
-use Rattle.catalogue_laws.specs.Histories.{History}
+use Rattle.catalogue.specs.Histories.{History}
 use Rattle.catalogue.specs.declared.mirror.Mirror.{Mirror}
 use Rattle.interleavings.specs.Events.{Enter, Event, Machine, service_after}
 use Rattle.interleavings.specs.Jobs.{EndedJob, Job, Worker}

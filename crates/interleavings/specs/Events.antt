@@ -1,7 +1,7 @@
 -- What can happen in a service, one event after the other. Each event is a step of one publisher, worker or operator
 -- that nothing comes between; one whose condition fails changes nothing.
 use Rattle.std.specs.Prelude.{ℕ, Bool, false, if◌then◌else◌, List, [], ◌∷◌, length, slice_get}
-use Rattle.catalogue_laws.specs.Histories.{History}
+use Rattle.catalogue.specs.Histories.{History}
 use Rattle.std.specs.Option.{option_map_or}
 use Rattle.catalogue.specs.declared.edit.Edit.{Edit}
 use Rattle.omaha_json.specs.declared.request.Request.{Request}

@@ -1,7 +1,7 @@
 -- What the replies of every interleaving say to their clients, and what follows for a client that takes an offer.
 use Rattle.std.specs.Prelude.{◌≡◌, ℕ, All, List, ◌∷◌, IfSome, MatchOption, Option, Some}
 use Rattle.std.specs.List.{AllZip, zip}
-use Rattle.catalogue_laws.specs.Histories.{History}
+use Rattle.catalogue.specs.Histories.{History}
 use Rattle.omaha_json.specs.declared.reply.AppReply.{AppReply}
 use Rattle.omaha_json.specs.declared.reply.Offer.{Offer}
 use Rattle.omaha_json.specs.declared.request.AppAsk.{AppAsk}

@@ -3,7 +3,7 @@
 use Rattle.std.specs.Prelude.{◌≡◌, ℕ, ◌≤◌, if◌then◌else◌, true, All, Contains, List, [], ◌∷◌, ◌++◌, IfSome, length, nat_le, slice_get, sum_by, take, Option, None, Some}
 use Rattle.std.specs.Option.{option_map_or}
 use Rattle.catalogue.specs.declared.edit.Edit.{Edit}
-use Rattle.catalogue_laws.specs.Histories.{History, LeadsTo}
+use Rattle.catalogue.specs.Histories.{History, LeadsTo}
 use Rattle.editions.specs.Editions.{content_of, max_batches}
 use Rattle.mirror_ledger.specs.Named.{budget_at}
 use Rattle.mirror_ledger.specs.Raising.{raise_at}

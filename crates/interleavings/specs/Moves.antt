@@ -1,7 +1,7 @@
 -- What becomes of a worker, move by move. A move whose condition fails leaves the worker as it is.
 use Rattle.std.specs.Prelude.{ℕ, ◌+◌, ◌==◌, ◌&&◌, Bool, false, if◌then◌else◌, List, [], ◌∷◌, ◌++◌, is_none, length, max, nat_le, nat_lt, slice_get, Option, None, Some, option_map}
 use Rattle.std.specs.Option.{option_map_or}
-use Rattle.catalogue_laws.specs.Histories.{History}
+use Rattle.catalogue.specs.Histories.{History}
 use Rattle.mirror_ledger.specs.Asks.{booked}
 use Rattle.omaha_json.specs.declared.reply.Reply.{Reply}
 use Rattle.omaha_json.specs.declared.request.Request.{Request}

@@ -1,6 +1,6 @@
 -- That what a server's workers and its operator did, each by itself, is a run of the machine.
 use Rattle.std.specs.Prelude.{◌≡◌, ℕ, ◌+◌, ◌≤◌, ◌<◌, All, List, flat_map, length, map, take, Option, None, slice_index}
-use Rattle.catalogue_laws.specs.Histories.{History, LeadsTo}
+use Rattle.catalogue.specs.Histories.{History, LeadsTo}
 use Rattle.http_desks.specs.Calls.{Call}
 use Rattle.mirror_ledger.specs.Tills.{AreFull}
 use Rattle.omaha_json.specs.ReplyWriting.{reply_bytes}

@@ -1,7 +1,7 @@
 -- A service with a published history, the books of its mirrors, and workers.
 use Rattle.std.specs.Prelude.{ℕ, zero, suc, ◌+◌, ◌==◌, ◌&&◌, Bool, if◌then◌else◌, List, [], ◌∷◌, ◌++◌, is_ok, length, max, nat_le, nat_lt, replicate, take, Some}
 use Rattle.catalogue.specs.declared.edit.Edit.{Edit}
-use Rattle.catalogue_laws.specs.Histories.{History}
+use Rattle.catalogue.specs.Histories.{History}
 use Rattle.editions.specs.Editions.{content_of, max_batches, outcome_after}
 use Rattle.mirror_ledger.specs.Asks.{booked}
 use Rattle.mirror_ledger.specs.Budgets.{Account}

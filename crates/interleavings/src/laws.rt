@@ -38,9 +38,9 @@ pub fn every_interleaving()
     ensures exact { BudgetsAreThoseOfRaises happens }
     ensures shares { SharesAreOfJobs happens }
 {
-    catalogue_laws::histories::growth();
-    catalogue_laws::histories::prefixes();
-    catalogue_laws::histories::validity();
+    catalogue::histories::growth();
+    catalogue::histories::prefixes();
+    catalogue::histories::validity();
     quotes::laws::rows();
     theorems::laws::graphs();
 }
@@ -57,9 +57,9 @@ pub fn publishing()
     ensures whole { BatchesArePublishedWhole happens }
     ensures turn { BatchesArePublishedInTurn happens }
 {
-    catalogue_laws::histories::growth();
-    catalogue_laws::histories::prefixes();
-    catalogue_laws::histories::validity();
+    catalogue::histories::growth();
+    catalogue::histories::prefixes();
+    catalogue::histories::validity();
     quotes::laws::rows();
     theorems::laws::graphs();
 }
@@ -105,7 +105,7 @@ pub fn following()
 pub fn plans()
     ensures { PlansAreByPrices }
 {
-    catalogue_laws::histories::validity();
+    catalogue::histories::validity();
     quotes::laws::rows();
     par_tables::laws::tracks();
     theorems::laws::graphs();
@@ -158,7 +158,7 @@ pub fn ties()
 pub fn certified()
     ensures { RequestsHaveRows }
 {
-    catalogue_laws::histories::validity();
+    catalogue::histories::validity();
     solver::laws::tables();
     theorems::laws::graphs();
 }
@@ -173,7 +173,7 @@ pub fn certified()
 pub fn worker_calls()
     ensures { WorkerCallsAreEvents }
 {
-    catalogue_laws::histories::validity();
+    catalogue::histories::validity();
     quotes::laws::rows();
     theorems::laws::graphs();
     theorems::laws::plans();
@@ -186,7 +186,7 @@ pub fn worker_calls()
 pub fn lone_calls()
     ensures { LoneCallsAreForRoom }
 {
-    catalogue_laws::histories::validity();
+    catalogue::histories::validity();
     quotes::laws::rows();
     theorems::laws::graphs();
     theorems::laws::plans();

@@ -9,7 +9,7 @@ use Rattle.catalogue.specs.declared.content.App.{App}
 use Rattle.catalogue.specs.Batches.{outcome, run, then_run}
 use Rattle.catalogue.specs.declared.edit.Edit.{Edit}
 use Rattle.catalogue.specs.declared.fault.Refused.{Refused}
-use Rattle.catalogue_laws.specs.Histories.{BatchesKeepOtherApps, HistoriesGrow, History, LeadsTo, app_named}
+use Rattle.catalogue.specs.Histories.{BatchesKeepOtherApps, HistoriesGrow, History, LeadsTo, app_named}
 use Rattle.editions.specs.Editions.{Continues, content_of, content_or_none}
 use Rattle.reviews.specs.Copies.{AreKept}
 use Rattle.omaha_commands.specs.Keeping.{is_left, kept_flags}

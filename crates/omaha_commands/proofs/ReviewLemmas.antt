@@ -1,7 +1,7 @@
 -- What is found of a script whose next edition is there.
 use Rattle.std.proofs.Common.{◌≡◌, ℕ, List, length, Result, Ok, Err, sym, subst}
 use Rattle.catalogue.specs.declared.edit.Edit.{Edit}
-use Rattle.catalogue_laws.specs.Histories.{History}
+use Rattle.catalogue.specs.Histories.{History}
 use Rattle.editions.specs.Editions.{Continues}
 use Rattle.omaha_arguments.specs.declared.command.Review.{Review}
 use Rattle.omaha_commands.specs.Reviewing.{FindsInBatch, FindsNext}

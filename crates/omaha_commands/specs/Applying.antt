@@ -1,7 +1,7 @@
 -- What a script makes of an edition; this project's profile.
 use Rattle.std.specs.Prelude.{◌≡◌, ℕ, ◌==◌, Bool, true, false, List, Result, Ok, Err}
 use Rattle.catalogue.specs.declared.edit.Edit.{Edit}
-use Rattle.catalogue_laws.specs.Histories.{History}
+use Rattle.catalogue.specs.Histories.{History}
 use Rattle.editions.specs.Editions.{Continues}
 use Rattle.editions.specs.declared.fault.NextError.{NextError}
 use Rattle.omaha_commands.specs.Reviewing.{failure_of_next}

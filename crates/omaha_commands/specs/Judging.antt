@@ -2,7 +2,7 @@
 use Rattle.std.specs.Prelude.{◌≡◌, ◌⊎◌, ⊤, ℕ, Bool, true, false, codes, decimal, List, ◌++◌, Result, Ok, Err}
 use Rattle.streams.specs.Reading.{IsLonger, IsWhole}
 use Rattle.streams.specs.Streams.{Known}
-use Rattle.catalogue_laws.specs.Histories.{History}
+use Rattle.catalogue.specs.Histories.{History}
 use Rattle.services.specs.declared.service.Service.{Service}
 use Rattle.profile_toml.specs.Reading.{script_of_bytes}
 use Rattle.package_files.specs.Storages.{Storage}

@@ -4,7 +4,7 @@ use Rattle.std.specs.List.{list_any}
 use Rattle.catalogue.specs.Forms.{same_id}
 use Rattle.catalogue.specs.declared.content.App.{App}
 use Rattle.catalogue.specs.declared.edit.Edit.{Edit}
-use Rattle.catalogue_laws.specs.Histories.{app_named}
+use Rattle.catalogue.specs.Histories.{app_named}
 
 -- no edit of a batch names an app, in any case of letters
 abbrev pub is_left : List Edit → App → Bool

@@ -5,7 +5,7 @@ use Rattle.streams.specs.Reading.{IsWhole}
 use Rattle.streams.specs.Writing.{Breaks}
 use Rattle.catalogue.specs.declared.content.App.{App}
 use Rattle.editions.specs.Editions.{content_of}
-use Rattle.catalogue_laws.specs.Histories.{History}
+use Rattle.catalogue.specs.Histories.{History}
 use Rattle.reviews.specs.Reviews.{AreReviews}
 use Rattle.reviews.specs.Warnings.{warnings_string}
 use Rattle.reviews.specs.declared.review.TrackReview.{TrackReview}

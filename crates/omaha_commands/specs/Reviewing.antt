@@ -3,7 +3,7 @@ use Rattle.std.specs.Prelude.{◌≡◌, ◌≢◌, ◌⊎◌, ⊤, ℕ, ◌-◌
 use Rattle.std.specs.Option.{option_map}
 use Rattle.catalogue.specs.declared.content.App.{App}
 use Rattle.catalogue.specs.declared.edit.Edit.{Edit}
-use Rattle.catalogue_laws.specs.Histories.{History}
+use Rattle.catalogue.specs.Histories.{History}
 use Rattle.editions.specs.Editions.{Continues, content_of}
 use Rattle.editions.specs.declared.fault.NextError.{NextError}
 use Rattle.editions.specs.declared.fault.NextError.TheVariants as next

@@ -3,7 +3,7 @@
 ghost use Rattle.std.specs.Prelude.{◌≡◌, IfOk};
 ghost use Rattle.std.specs.List.{list_any};
 ghost use Rattle.catalogue.specs.Forms.{same_id};
-ghost use Rattle.catalogue_laws.specs.Histories.{app_named};
+ghost use Rattle.catalogue.specs.Histories.{app_named};
 ghost use Rattle.omaha_commands.specs.Keeping.{kept_flags};
 
 use catalogue::{Batch, Catalogue, Edit};

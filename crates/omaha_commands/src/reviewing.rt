@@ -172,8 +172,8 @@ fn review_batch(
 ) -> Result<Findings, Failure>
     ensures { FindsInBatch asked.now edition.now base batch result }
 {
-    catalogue_laws::histories::growth();
-    catalogue_laws::histories::other_apps();
+    catalogue::histories::growth();
+    catalogue::histories::other_apps();
     if base != edition.number() {
         return Err(Failure::Stale(edition.number()));
     }

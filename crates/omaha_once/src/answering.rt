@@ -1,7 +1,7 @@
 // The reply to one input, by a view of its own of the one edition, over books that are opened for it.
 
 ghost use Rattle.std.specs.Prelude.{◌≡◌, ◌∷◌, [], true, List, IfOk, Ok};
-ghost use Rattle.catalogue_laws.specs.Histories.{History};
+ghost use Rattle.catalogue.specs.Histories.{History};
 ghost use Rattle.mirror_ledger.specs.Asks.{Ask};
 ghost use Rattle.publisher.specs.Sights.{fresh};
 ghost use Rattle.omaha_once.specs.Answering.{Answers, IsRepliedAlone, RepliesFor};

@@ -1,5 +1,5 @@
 -- What mirrors granted, one after the other; and what a look at them leaves.
-use Rattle.catalogue_laws.specs.Histories.{History}
+use Rattle.catalogue.specs.Histories.{History}
 use Rattle.catalogue.specs.declared.mirror.Mirror.{Mirror}
 use Rattle.operator_pages.specs.declared.counts.Counts.{Counts}
 use Rattle.operator_pages.specs.declared.publishes.Publish.{Publish}

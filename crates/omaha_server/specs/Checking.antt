@@ -1,6 +1,6 @@
 -- The steps of a look for the packages of a script.
 use Rattle.std.specs.Prelude.{◌≡◌, ⊤, ℕ, Bool, true, List, Option, None, Some, Result, Ok, Err}
-use Rattle.catalogue_laws.specs.Histories.{History}
+use Rattle.catalogue.specs.Histories.{History}
 use Rattle.http_desks.specs.Calls.{answer_in}
 use Rattle.http_desks.specs.declared.desk.Answer.{Answer}
 use Rattle.http_desks.specs.declared.desk.DeskStatus.{DeskStatus}

@@ -1,7 +1,7 @@
 -- What an operator's address shows: what is published, what its calls came to, and whether the server is to end; this
 -- project's profile.
 use Rattle.std.specs.Prelude.{◌≡◌, ◌+◌, ◌-◌, ℕ, Bool, false, true, if◌then◌else◌, List, [], length, nat_lt, slice_index_or, Option, None, Some}
-use Rattle.catalogue_laws.specs.Histories.{History}
+use Rattle.catalogue.specs.Histories.{History}
 use Rattle.http_desks.specs.Calls.{Call, Asks, Looks, Shows}
 use Rattle.operator_pages.specs.Counts.{heard, no_counts}
 use Rattle.operator_pages.specs.Publishes.{with_publish}

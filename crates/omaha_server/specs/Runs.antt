@@ -4,7 +4,7 @@ use Rattle.mirror_ledger.specs.declared.run_error.RunError.{RunError}
 use Rattle.mirror_ledger.specs.declared.run_error.RunError.TheVariants as run
 use Rattle.mirror_ledger.specs.declared.running.Ran.{Ran}
 use Rattle.std.specs.Io.KnownBytes.{Appends}
-use Rattle.catalogue_laws.specs.Histories.{History}
+use Rattle.catalogue.specs.Histories.{History}
 use Rattle.http_ports.specs.Traffic.{Slot}
 use Rattle.http_ports.specs.declared.terms.Terms.{Terms}
 use Rattle.publisher.specs.Sights.{Allows}

@@ -2,7 +2,7 @@
 use Rattle.std.specs.Prelude.{◌≡◌, ◌⊎◌, ◌&&◌, ◌<◌, ◌≤◌, ℕ, Bool, true, false, nat_eq, not, List, [], codes, length, slice_index_or, Option, Some, None, Result, Ok, Err, IfErr, ⊤}
 use Rattle.std.specs.Io.KnownBytes.{Appends}
 use Rattle.std.specs.Option.{is_some}
-use Rattle.catalogue_laws.specs.Histories.{History}
+use Rattle.catalogue.specs.Histories.{History}
 use Rattle.http_desks.specs.Calls.{Call, Asks, Looks, Shows}
 use Rattle.http_desks.specs.Uses.{IsUse}
 use Rattle.http_ports.specs.Rounds.{all_calls}

@@ -2,7 +2,7 @@
 
 ghost use Rattle.std.specs.Prelude.{◌≡◌, ◌<◌, ◌∷◌, ◌++◌, All, IfOk, if◌then◌else◌, length, map};
 ghost use Rattle.std.specs.Option.{is_some};
-ghost use Rattle.catalogue_laws.specs.Histories.{History};
+ghost use Rattle.catalogue.specs.Histories.{History};
 ghost use Rattle.publisher.specs.Sights.{fresh};
 ghost use Rattle.omaha_server.specs.Jobs.{IsClients};
 ghost use Rattle.omaha_server.specs.Logging.{those_of};

@@ -1,7 +1,7 @@
 // The connections of the operator.
 
 ghost use Rattle.std.specs.Prelude.{◌≡◌, IfSome, List, None, Option, true};
-ghost use Rattle.catalogue_laws.specs.Histories.{History};
+ghost use Rattle.catalogue.specs.Histories.{History};
 ghost use Rattle.profile_toml.specs.Laws.{AreMirrors};
 ghost use Rattle.operator_pages.specs.declared.counts.Counts.{Counts as Numbers};
 ghost use Rattle.operator_pages.specs.declared.publishes.Publish.{Publish};

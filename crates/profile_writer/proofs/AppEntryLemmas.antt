@@ -3,7 +3,7 @@ use Rattle.std.proofs.Common.{◌≡◌, ℕ, ◌+◌, false, List, [], ◌∷�
 use Rattle.std.specs.List.{AllByRecursion, list_any}
 use Rattle.std.proofs.lemmas.List.{map-append, map-id}
 use Rattle.std.proofs.lemmas.Slice.Eq.{bytes_eq-Decides}
-use Rattle.catalogue_laws.specs.Contents.{default_name, spelling_of}
+use Rattle.catalogue.specs.Contents.{default_name, spelling_of}
 use Rattle.catalogue.specs.Lookups.{has_cohort, is_cohort}
 use Rattle.catalogue.specs.Validity.{IsValidApp}
 use Rattle.catalogue.specs.declared.content.App.{App}

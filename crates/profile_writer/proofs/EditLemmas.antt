@@ -7,7 +7,7 @@ use Rattle.std.proofs.lemmas.Bool.{or_parts}
 use Rattle.std.proofs.lemmas.Slice.Eq.{bytes_eq-Decides}
 use Rattle.catalogue.specs.declared.edit.Edit.{Edit}
 use Rattle.catalogue.specs.declared.edit.Edit.TheVariants as edit
-use Rattle.catalogue_laws.specs.Contents.{default_name, edit_of_cohort, edit_of_diff, edits_of_app, edits_of_content, edits_of_release, edits_of_settings, spelling_of}
+use Rattle.catalogue.specs.Contents.{default_name, edit_of_cohort, edit_of_diff, edits_of_app, edits_of_content, edits_of_release, edits_of_settings, spelling_of}
 use Rattle.catalogue.specs.Limits.{max_share}
 use Rattle.catalogue.specs.Lookups.{is_cohort}
 use Rattle.catalogue.specs.Validity.{IsValidApp}

@@ -1,7 +1,7 @@
 -- The tables of a content are read as its entries.
 use Rattle.std.proofs.Common.{◌≡◌, ℕ, Bool, true, false, List, codes, unwrap_or, Result, Ok, refl}
 use Rattle.hex.specs.Hex.{encode_lower}
-use Rattle.catalogue_laws.specs.Contents.{spelling_of}
+use Rattle.catalogue.specs.Contents.{spelling_of}
 use Rattle.catalogue.specs.declared.content.Diff.{Diff}
 use Rattle.catalogue.specs.declared.content.Release.{Release}
 use Rattle.catalogue.specs.declared.mirror.Mirror.{Mirror}

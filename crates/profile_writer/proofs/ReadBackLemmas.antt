@@ -3,7 +3,7 @@ use Rattle.std.proofs.Common.{◌≡◌, ℕ, List, [], codes, Some, Ok, refl}
 use Rattle.std.specs.List.{AllByRecursion}
 use Rattle.std.specs.Str.{IsUtf8}
 use Rattle.std.proofs.lemmas.Str.{is_utf8-from_IsUtf8}
-use Rattle.catalogue_laws.specs.Contents.{edits_of_content}
+use Rattle.catalogue.specs.Contents.{edits_of_content}
 use Rattle.catalogue.specs.Validity.{IsValidApp}
 use Rattle.catalogue.specs.declared.content.App.{App}
 use Rattle.catalogue.specs.declared.mirror.Mirror.{Mirror}

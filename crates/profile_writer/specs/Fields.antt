@@ -5,7 +5,7 @@ use Rattle.std.specs.Prelude.{ℕ, ◌==◌, List, [], ◌∷◌, codes, map, if
 use Rattle.std.specs.Str.{bytes_eq}
 use Rattle.hex.specs.Hex.{encode_lower}
 use Rattle.catalogue.specs.Versions.{printed, zero_version}
-use Rattle.catalogue_laws.specs.Contents.{default_name, spelling_of}
+use Rattle.catalogue.specs.Contents.{default_name, spelling_of}
 use Rattle.catalogue.specs.Limits.{max_share}
 use Rattle.catalogue.specs.declared.content.App.{App}
 use Rattle.catalogue.specs.declared.content.Cohort.{Cohort}

@@ -2,7 +2,7 @@
 use Rattle.std.specs.Prelude.{◌≡◌, ℕ, false, List, [], Ok}
 use Rattle.toml.specs.Text.{IsDocumentText}
 use Rattle.catalogue.specs.Batches.{outcome}
-use Rattle.catalogue_laws.specs.Contents.{edits_of_content}
+use Rattle.catalogue.specs.Contents.{edits_of_content}
 use Rattle.profile_toml.specs.Reading.{profile_of_bytes}
 use Rattle.profile_writer.specs.Fields.{profile_table}
 use Rattle.catalogue.specs.declared.content.App.{App}

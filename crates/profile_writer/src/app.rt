@@ -2,7 +2,7 @@
 
 ghost use Rattle.std.specs.Prelude.{◌≡◌, map, IfOk};
 ghost use Rattle.std.specs.List.{AllByRecursion};
-ghost use Rattle.catalogue_laws.specs.Contents.{default_name};
+ghost use Rattle.catalogue.specs.Contents.{default_name};
 ghost use Rattle.catalogue.specs.Validity.{IsValidApp};
 ghost use Rattle.toml.specs.View.{table_view};
 ghost use Rattle.profile_writer.specs.Fields.{app_table};

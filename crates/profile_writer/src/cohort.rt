@@ -2,7 +2,7 @@
 
 ghost use Rattle.std.specs.Prelude.{◌≡◌, ◌<◌, ◌^◌, true, codes, map, option_map, IfOk, OnOk};
 ghost use Rattle.std.specs.List.{AllByRecursion};
-ghost use Rattle.catalogue_laws.specs.Contents.{spelling_of};
+ghost use Rattle.catalogue.specs.Contents.{spelling_of};
 ghost use Rattle.catalogue.specs.Validity.{is_release_below};
 ghost use Rattle.toml.specs.View.{table_view};
 ghost use Rattle.values.specs.Ordered.{ascend};

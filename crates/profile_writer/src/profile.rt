@@ -73,7 +73,7 @@ pub fn write_profile(
     ensures reads_back { IfOk result (λ text. IsReadAs catalogue.now mirrors.now text.items) }
 {
     catalogue.validity();
-    catalogue_laws::histories::contents();
+    catalogue::histories::contents();
     let table = write_tables(alloc, catalogue, mirrors)?;
     match toml::table_to_string(alloc, &table) {
         Ok(text) => Ok(text.into_bytes()),

@@ -2,7 +2,7 @@
 use Rattle.std.proofs.Common.{◌≡◌, ◌≤◌, List, [], ◌∷◌, ◌++◌, length, sym, ap, ◌∙◌, take, drop, append_assoc, arith, subst}
 use Rattle.std.proofs.lemmas.List.{append-nil, length-append, nil_from_length, take-append-drop, take-append-le}
 use Rattle.std.proofs.Math.Seq.{take-append_seam}
-use Rattle.catalogue_laws.specs.Histories.{History}
+use Rattle.catalogue.specs.Histories.{History}
 use Rattle.publisher.specs.Beginnings.{StartsWith}
 use Rattle.publisher.specs.Heard.{GoesOn, IsLinked, newest}
 

@@ -1,6 +1,6 @@
 -- What was learnt, beside what was heard.
 use Rattle.std.proofs.Common.{List, []}
-use Rattle.catalogue_laws.specs.Histories.{History}
+use Rattle.catalogue.specs.Histories.{History}
 use Rattle.publisher.specs.declared.learnt.Learnt.{Learnt}
 use Rattle.publisher.specs.declared.learnt.Learnt.TheVariants as learnt
 use Rattle.publisher.specs.Heard.{GoesOn}

@@ -1,6 +1,6 @@
 -- What a view has learnt, beside what it has seen; this project's profile.
 use Rattle.std.specs.Prelude.{◌≡◌, ◌≤◌, Bool, false, true, List, ◌∷◌, length}
-use Rattle.catalogue_laws.specs.Histories.{History}
+use Rattle.catalogue.specs.Histories.{History}
 use Rattle.publisher.specs.Beginnings.{StartsWith}
 use Rattle.publisher.specs.Heard.{GoesOn, newest}
 use Rattle.publisher.specs.declared.learnt.Learnt.{Learnt}

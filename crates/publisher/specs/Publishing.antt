@@ -1,7 +1,7 @@
 -- What opening and publishing come to; this project's profile.
 use Rattle.std.specs.Prelude.{◌≡◌, ◌≢◌, ◌⊎◌, ℕ, List, [], ◌∷◌, All, length, Result, Ok, Err, Vec}
 use Rattle.catalogue.specs.declared.edit.Edit.{Edit}
-use Rattle.catalogue_laws.specs.Histories.{History}
+use Rattle.catalogue.specs.Histories.{History}
 use Rattle.editions.specs.Editions.{Continues, IsAccepted}
 use Rattle.editions.specs.declared.fault.NextError.TheVariants as next
 use Rattle.publisher.specs.Sights.{Sight, fresh}

@@ -1,6 +1,6 @@
 -- What a view has seen or learnt; this project's profile.
 use Rattle.std.specs.Prelude.{◌≡◌, ℕ, Bool, false, List, [], ◌∷◌, length}
-use Rattle.catalogue_laws.specs.Histories.{History}
+use Rattle.catalogue.specs.Histories.{History}
 use Rattle.publisher.specs.Beginnings.{StartsWith}
 use Rattle.publisher.specs.Heard.{GoesOn}
 

@@ -1,5 +1,5 @@
 ghost use Rattle.std.specs.Prelude.{◌≡◌, max, length, true, IfNone, IfSome};
-ghost use Rattle.catalogue_laws.specs.Histories.{History};
+ghost use Rattle.catalogue.specs.Histories.{History};
 ghost use Rattle.publisher.specs.Beginnings.{StartsWith};
 ghost use Rattle.publisher.specs.Heard.{IsLinked};
 ghost use Rattle.publisher.specs.Sights.{Allows, Learns, fresh};

@@ -15,7 +15,7 @@ pub struct Prepared {
 
 impl Model for Prepared {
     ghost use Rattle.std.specs.Arc.{arc_value};
-    ghost use Rattle.catalogue_laws.specs.Histories.{History};
+    ghost use Rattle.catalogue.specs.Histories.{History};
 
     ghost Value = { History };
 

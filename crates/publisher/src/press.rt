@@ -32,7 +32,7 @@ impl Model for Press {
     ghost use Rattle.std.specs.Arc.{arc_value};
     ghost use Rattle.std.specs.Option.{option_map_or};
     ghost use Rattle.left_right.specs.Sides.{view as heard_by};
-    ghost use Rattle.catalogue_laws.specs.Histories.{History};
+    ghost use Rattle.catalogue.specs.Histories.{History};
 
     ghost Value = { History };
 

@@ -17,7 +17,7 @@ pub struct Receipt {
 
 impl Model for Receipt {
     ghost use Rattle.std.specs.Arc.{arc_value};
-    ghost use Rattle.catalogue_laws.specs.Histories.{History};
+    ghost use Rattle.catalogue.specs.Histories.{History};
 
     ghost Value = { History };
 

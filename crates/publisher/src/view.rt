@@ -48,7 +48,7 @@ impl Model for Entered {
     ghost use Rattle.std.specs.Prelude.{◌≡◌, [], ◌∷◌};
     ghost use Rattle.std.specs.Arc.{arc_value};
     ghost use Rattle.left_right.specs.Sides.{view as heard_by};
-    ghost use Rattle.catalogue_laws.specs.Histories.{History};
+    ghost use Rattle.catalogue.specs.Histories.{History};
 
     ghost Value = { History };
 

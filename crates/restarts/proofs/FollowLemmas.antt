@@ -1,6 +1,6 @@
 -- What the records lead to of a desk that took over records of other servers.
 use Rattle.std.proofs.Common.{List, ◌∷◌, [], ◌++◌, inl, inr, refl, subst, sym, unwrap_or, ℕ, Result, Ok, Err}
-use Rattle.catalogue_laws.specs.Histories.{History}
+use Rattle.catalogue.specs.Histories.{History}
 use Rattle.http_desks.specs.declared.desk.DeskStatus.{DeskStatus}
 use Rattle.http_desks.specs.declared.desk.Off.{Off}
 use Rattle.http_desks.specs.declared.desk.Off.TheVariants as off

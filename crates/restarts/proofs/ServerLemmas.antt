@@ -1,7 +1,7 @@
 -- What more records lead to.
 use Rattle.std.proofs.Common.{◌∙◌, List, [], ◌∷◌, ◌++◌, ℕ, ap, refl, subst, sym}
 use Rattle.std.proofs.lemmas.List.{append-nil, append_assoc}
-use Rattle.catalogue_laws.specs.Histories.{History}
+use Rattle.catalogue.specs.Histories.{History}
 use Rattle.kept_records.specs.declared.record.Kind.{Kind}
 use Rattle.kept_records.specs.declared.record.Kind.TheVariants as kind
 use Rattle.kept_records.specs.declared.record.Record.{Record}

@@ -2,7 +2,7 @@
 use Rattle.std.specs.Prelude.{◌≡◌, ⊤, ℕ, zero, suc, false, List, [], ◌∷◌, slice_get, take, Ok, Err, Some}
 use Rattle.std.specs.Str.Parse.{digits_value}
 use Rattle.catalogue.specs.declared.edit.Edit.{Edit}
-use Rattle.catalogue_laws.specs.Histories.{History}
+use Rattle.catalogue.specs.Histories.{History}
 use Rattle.editions.specs.Editions.{Continues}
 use Rattle.editions.specs.declared.fault.NextError.TheVariants as next
 use Rattle.kept_records.specs.declared.record.Kind.{Kind}

@@ -1,6 +1,6 @@
 -- Histories that go on from others.
 use Rattle.std.proofs.Common.{◌≡◌, List, ◌++◌, ap, drop, length, sym, take, take-append-drop, ◌∙◌}
-use Rattle.catalogue_laws.specs.Histories.{History}
+use Rattle.catalogue.specs.Histories.{History}
 use Rattle.publisher.specs.Beginnings.{StartsWith}
 use Rattle.service_desks.specs.States.{GoesOn}
 

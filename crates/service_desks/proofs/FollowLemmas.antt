@@ -1,6 +1,6 @@
 -- The replies of a desk that adopts records of other servers.
 use Rattle.std.proofs.Common.{◌≡◌, ℕ, List, MatchResult, Option, None, Result, Ok, Err, ap, ap₂, inl, inr, subst, sym, unwrap_or, ◌∙◌}
-use Rattle.catalogue_laws.specs.Histories.{History}
+use Rattle.catalogue.specs.Histories.{History}
 use Rattle.http_desks.specs.Calls.{answer_in}
 use Rattle.http_desks.specs.declared.desk.Answer.{Answer}
 use Rattle.http_desks.specs.declared.desk.DeskStatus.{DeskStatus}

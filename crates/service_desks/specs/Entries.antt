@@ -1,6 +1,6 @@
 -- How a view enters an edition for one call of a worker; this project's profile.
 use Rattle.std.specs.Prelude.{◌≡◌, ◌≤◌, ◌⊎◌, true, length}
-use Rattle.catalogue_laws.specs.Histories.{History, LeadsTo}
+use Rattle.catalogue.specs.Histories.{History, LeadsTo}
 use Rattle.editions.specs.Editions.{content_of}
 use Rattle.publisher.specs.Sights.{Allows, Sight, fresh}
 

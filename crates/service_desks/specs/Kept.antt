@@ -1,6 +1,6 @@
 -- The tables of pinned tracks that a worker keeps between two calls; this project's profile.
 use Rattle.std.specs.Prelude.{◌≡◌, length}
-use Rattle.catalogue_laws.specs.Histories.{History}
+use Rattle.catalogue.specs.Histories.{History}
 use Rattle.editions.specs.Editions.{content_of}
 use Rattle.par_tables.specs.Caches.{AreOwnTables}
 use Rattle.publisher.specs.Beginnings.{StartsWith}

@@ -1,7 +1,7 @@
 -- What a script comes to that is sent to the operator's desk; this project's profile.
 use Rattle.std.specs.Prelude.{◌≡◌, ◌⊎◌, ℕ, ◌+◌, ◌-◌, List, length, Result, Ok, Err, Option, None, Some}
 use Rattle.catalogue.specs.declared.edit.Edit.{Edit}
-use Rattle.catalogue_laws.specs.Histories.{History}
+use Rattle.catalogue.specs.Histories.{History}
 use Rattle.http_desks.specs.declared.desk.DeskStatus.{DeskStatus}
 use Rattle.http_desks.specs.declared.desk.DeskStatus.TheVariants as status
 use Rattle.http_desks.specs.declared.desk.Off.{Off}

@@ -1,7 +1,7 @@
 -- What the workers and the operator of a service did, each by itself; this project's profile.
 use Rattle.std.specs.Prelude.{◌≡◌, ℕ, ◌≤◌, List, [], length, None}
 use Rattle.std.specs.List.{AllZip}
-use Rattle.catalogue_laws.specs.Histories.{History}
+use Rattle.catalogue.specs.Histories.{History}
 use Rattle.http_desks.specs.Calls.{Call, Leads}
 use Rattle.mirror_ledger.specs.Asks.{Ask}
 use Rattle.mirror_ledger.specs.Tills.{AreTotalsOf, HadNoRoom}

@@ -1,6 +1,6 @@
 -- What the operator's desk changes: what is published, what is kept of it, and the mirrors' budgets; this project's profile.
 use Rattle.std.specs.Prelude.{◌≡◌, ℕ, ◌-◌, List, [], ◌∷◌, ◌++◌, length, take, Option, None, Some, unwrap_or}
-use Rattle.catalogue_laws.specs.Histories.{History}
+use Rattle.catalogue.specs.Histories.{History}
 use Rattle.kept_records.specs.Keeping.{record_of}
 use Rattle.kept_records.specs.declared.record.Kind.TheVariants as kind
 use Rattle.kept_records.specs.declared.record.Record.{Record}

@@ -1,6 +1,6 @@
 -- The desk of a worker: how it replies to a message, and which packages it knows; this project's profile.
 use Rattle.std.specs.Prelude.{◌≡◌, ◌⊎◌, ℕ, List, [], Option, None, Result, Ok, Err}
-use Rattle.catalogue_laws.specs.Histories.{History}
+use Rattle.catalogue.specs.Histories.{History}
 use Rattle.editions.specs.Editions.{content_of}
 use Rattle.http_desks.specs.Calls.{Call, Asks, Looks, Shows}
 use Rattle.http_desks.specs.declared.desk.DeskStatus.{DeskStatus}

@@ -2,7 +2,7 @@
 
 ghost use Rattle.std.specs.Prelude.{◌≡◌, ◌≤◌, ◌++◌, ◌∷◌, [], List, Option, None, Ok, true, IfOk, MatchResult};
 ghost use Rattle.std.specs.Option.{ForSome};
-ghost use Rattle.catalogue_laws.specs.Histories.{History};
+ghost use Rattle.catalogue.specs.Histories.{History};
 ghost use Rattle.editions.specs.Editions.{Continues};
 ghost use Rattle.http_desks.specs.Calls.{answer_in};
 ghost use Rattle.kept_records.specs.Keeping.{record_of};

@@ -2,7 +2,7 @@
 use Rattle.std.proofs.Common.{◌≡◌, List, [], Result, Ok, Err, refl, arith}
 use Rattle.catalogue.specs.Batches.{run}
 use Rattle.catalogue.specs.declared.fault.Refused.{Refused}
-use Rattle.catalogue_laws.specs.Histories.{HistoriesAreValid, History}
+use Rattle.catalogue.specs.Histories.{HistoriesAreValid, History}
 use Rattle.catalogue.specs.Validity.{IsValid}
 use Rattle.catalogue.specs.declared.content.App.{App}
 use Rattle.editions.specs.Editions.{content_of, content_or_none}

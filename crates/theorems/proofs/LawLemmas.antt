@@ -1,7 +1,7 @@
 -- The laws, in the content that a history leads to.
 use Rattle.std.proofs.Common.{◌≡◌, None, Some, inl, inr, sym, ◌∙◌, subst}
 use Rattle.catalogue.specs.VersionLaws.{BelowIsIrreflexive, BelowIsTransitive}
-use Rattle.catalogue_laws.specs.Histories.{HistoriesAreValid}
+use Rattle.catalogue.specs.Histories.{HistoriesAreValid}
 use Rattle.cohorts.specs.Laws.{ParsedIsPrinted, PrintedIsParsed}
 use Rattle.omaha_json.specs.declared.request.AppAsk.{AppAsk}
 use Rattle.editions.specs.Editions.{content_of}

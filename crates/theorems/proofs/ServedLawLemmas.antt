@@ -10,7 +10,7 @@ use Rattle.omaha_json_client.specs.Soundness.{IsSound}
 use Rattle.payload_graph.specs.Chains.{IsAtTarget}
 use Rattle.quotes.specs.Sums.{IsLeast}
 use Rattle.editions.specs.Editions.{content_of}
-use Rattle.catalogue_laws.specs.Histories.{HistoriesAreValid}
+use Rattle.catalogue.specs.Histories.{HistoriesAreValid}
 use Rattle.theorems.proofs.HistoryLemmas.{IsValid-content}
 use Rattle.replies.specs.Clients.{key_of}
 use Rattle.theorems.specs.Asks.{IsAskOf, place_at}

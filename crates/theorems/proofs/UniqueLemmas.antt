@@ -8,7 +8,7 @@ use Rattle.std.proofs.lemmas.Option.{none-some, same_Some}
 use Rattle.std.proofs.lemmas.Slice.Eq.{bytes_eq-Decides}
 use Rattle.catalogue.specs.VersionLaws.{BelowIsIrreflexive, BelowIsTransitive}
 use Rattle.catalogue.specs.Versions.{is_below}
-use Rattle.catalogue_laws.specs.Histories.{HistoriesAreValid}
+use Rattle.catalogue.specs.Histories.{HistoriesAreValid}
 use Rattle.omaha_json.specs.declared.request.AppAsk.{AppAsk}
 use Rattle.catalogue.specs.Lookups.{is_release}
 use Rattle.catalogue.specs.Validity.{IsValid, IsValidApp, is_diff_before}

@@ -5,7 +5,7 @@ use Rattle.std.specs.List.{AllZip}
 use Rattle.catalogue.specs.Validity.{IsValidApp}
 use Rattle.catalogue.specs.declared.content.App.{App}
 use Rattle.catalogue.specs.declared.mirror.Mirror.{Mirror}
-use Rattle.catalogue_laws.specs.Histories.{History}
+use Rattle.catalogue.specs.Histories.{History}
 use Rattle.omaha_json.specs.declared.reply.AppReply.{AppReply}
 use Rattle.omaha_json.specs.declared.reply.CheckReply.{CheckReply}
 use Rattle.omaha_json.specs.declared.reply.CheckReply.TheVariants as check

@@ -5,7 +5,7 @@ use Rattle.catalogue.specs.Mirrors.{is_mirror}
 use Rattle.catalogue.specs.Validity.{IsValid}
 use Rattle.catalogue.specs.declared.content.App.{App}
 use Rattle.catalogue.specs.declared.mirror.Mirror.{Mirror}
-use Rattle.catalogue_laws.specs.Histories.{History}
+use Rattle.catalogue.specs.Histories.{History}
 use Rattle.omaha_json.specs.declared.reply.AppReply.{AppReply}
 use Rattle.payload_graph.specs.Chains.{IsAtTarget, IsChain}
 use Rattle.payload_graph.specs.declared.payload.Payload.{Payload}

@@ -20,7 +20,7 @@ pub fn plans()
     ensures { PlansAreOne }
 {
     catalogue::version_laws::order();
-    catalogue_laws::histories::validity();
+    catalogue::histories::validity();
 }
 
 /// States that the graph of a track of a valid app is one, as `price_cert` checks tables against.
@@ -38,7 +38,7 @@ pub fn statuses()
     ensures { StatusesSay }
 {
     catalogue::version_laws::order();
-    catalogue_laws::histories::validity();
+    catalogue::histories::validity();
 }
 
 // rule: Next ask
@@ -48,7 +48,7 @@ pub fn steps()
     ensures { OffersAreSteps }
 {
     catalogue::version_laws::order();
-    catalogue_laws::histories::validity();
+    catalogue::histories::validity();
     cohorts::laws::cohort_texts();
 }
 
@@ -68,7 +68,7 @@ pub fn walk()
     ensures track { WalksKeepTracks }
 {
     catalogue::version_laws::order();
-    catalogue_laws::histories::validity();
+    catalogue::histories::validity();
     cohorts::laws::cohort_texts();
 }
 
@@ -94,5 +94,5 @@ pub fn served_walks<L: Link>(link: &L)
     omaha_json_client::laws::replies_are_read_back();
     crate::laws::replies();
     crate::laws::walk();
-    catalogue_laws::histories::validity();
+    catalogue::histories::validity();
 }

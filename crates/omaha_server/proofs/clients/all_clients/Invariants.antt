@@ -1,7 +1,7 @@
 -- There are the connections of each port so far, and views for the others.
 use Rattle.std.proofs.Common.{◌≡◌, ◌++◌, All, if◌then◌else◌, is_some, length, map}
 use Rattle.std.specs.Vec.Iter.{into_iter_items, into_iter_len}
-use Rattle.catalogue_laws.specs.Histories.{History}
+use Rattle.catalogue.specs.Histories.{History}
 use Rattle.publisher.specs.Sights.{fresh}
 use Rattle.omaha_server.specs.Jobs.{IsClients}
 use Rattle.omaha_server.specs.Logging.{those_of}

@@ -1,5 +1,5 @@
 use Rattle.std.proofs.Common.{◌∙◌, ℕ, Err, List, ap, subst}
-use Rattle.catalogue_laws.specs.Histories.{History}
+use Rattle.catalogue.specs.Histories.{History}
 use Rattle.omaha_server.specs.Passages.{passages_of}
 use Rattle.omaha_server.specs.Runs.{HasServed, PrintsLines}
 use Rattle.omaha_server.specs.Serving.{begun}

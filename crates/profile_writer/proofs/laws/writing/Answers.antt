@@ -3,7 +3,7 @@ use Rattle.catalogue.specs.declared.edit.Edit.{Edit}
 use Rattle.catalogue.specs.declared.fault.Refused.{Refused}
 use Rattle.catalogue.specs.declared.content.App.{App}
 use Rattle.catalogue.specs.declared.mirror.Mirror.{Mirror}
-use Rattle.catalogue_laws.specs.Contents.{edits_of_content}
+use Rattle.catalogue.specs.Contents.{edits_of_content}
 use Rattle.profile_writer.proofs.OneTextLemmas.{IsDocumentText-once}
 use Rattle.profile_writer.proofs.PlainLemmas.{profile_plain}
 use Rattle.profile_writer.specs.Fields.{profile_table}

@@ -1,6 +1,6 @@
 use Rattle.std.proofs.Common.{◌≡◌, ap, drop, fold, ◌∙◌, Global}
 use Rattle.std.specs.Arc.{arc_value}
-use Rattle.catalogue_laws.specs.Histories.{History}
+use Rattle.catalogue.specs.Histories.{History}
 use Rattle.publisher.proofs.RuleLemmas.{fold-last, turns}
 use Rattle.publisher.proofs.steps.show.Goals as goal
 

@@ -1,3 +1,0 @@
-pub mod ContentExamples
-pub mod Contents
-pub mod Histories
