@@ -7,7 +7,7 @@ use Rattle.streams.specs.Streams.{Known}
 use Rattle.streams.specs.Strings.{shown_string}
 use Rattle.catalogue.specs.declared.edit.Edit.{Edit}
 use Rattle.catalogue.specs.declared.fault.Refused.{Refused}
-use Rattle.profile_tables.specs.Fields.{◌>>=◌}
+use Rattle.profile_toml.specs.Fields.{◌>>=◌}
 use Rattle.profile_toml.specs.Reading.{profile_of_bytes, script_of_bytes}
 use Rattle.profile_toml.specs.declared.fault.ProfileFault.{ProfileFault}
 use Rattle.profile_toml.specs.declared.fault.ProfileFault.TheVariants as fault

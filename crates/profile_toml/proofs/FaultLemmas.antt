@@ -5,15 +5,15 @@ use Rattle.std.specs.Option.{ok_or, option_map_or}
 use Rattle.toml.specs.Data.{Items, no_items, item, Members, as_bool, as_str}
 use Rattle.catalogue.specs.declared.edit.Edit.{Edit}
 use Rattle.catalogue.specs.declared.mirror.Mirror.{Mirror}
-use Rattle.profile_tables.specs.Fields.{◌>>=◌, as_natural, required}
-use Rattle.profile_tables.specs.Laws.{IsOneLine}
-use Rattle.profile_tables.specs.Lists.{element}
-use Rattle.profile_tables.specs.Paths.{invalid_key}
-use Rattle.profile_tables.specs.Tables.{PlacedList, PlacedTable, document}
-use Rattle.profile_tables.specs.declared.path.BadEntry.{BadEntry}
-use Rattle.profile_tables.proofs.FaultLemmas.{HasLine, HasLine-cond, HasLine-err, HasLine-ok, HasLine-ok_or, HasLine-then, FailsInOneLine, each_element, knows, needs, needs_list, reads_each, takes, takes_list, takes_strings}
-use Rattle.profile_tables.proofs.LineLemmas.{IsOneLine-append, IsOneLine-decimal}
-use Rattle.profile_tables.proofs.PathLemmas.{IsOneLine-path_of}
+use Rattle.profile_toml.specs.Fields.{◌>>=◌, as_natural, required}
+use Rattle.profile_toml.specs.TableLaws.{IsOneLine}
+use Rattle.profile_toml.specs.Lists.{element}
+use Rattle.profile_toml.specs.Paths.{invalid_key}
+use Rattle.profile_toml.specs.Tables.{PlacedList, PlacedTable, document}
+use Rattle.profile_toml.specs.declared.tables.path.BadEntry.{BadEntry}
+use Rattle.profile_toml.proofs.TableFaultLemmas.{HasLine, HasLine-cond, HasLine-err, HasLine-ok, HasLine-ok_or, HasLine-then, FailsInOneLine, each_element, knows, needs, needs_list, reads_each, takes, takes_list, takes_strings}
+use Rattle.profile_toml.proofs.LineLemmas.{IsOneLine-append, IsOneLine-decimal}
+use Rattle.profile_toml.proofs.PathLemmas.{IsOneLine-path_of}
 use Rattle.profile_toml.specs.Apps.{app_keys, app_of}
 use Rattle.profile_toml.specs.Cohorts.{cohort_keys, cohort_of, cohorts_after, cohorts_of, is_named, new_name}
 use Rattle.profile_toml.specs.Diffs.{diff_in, diff_keys, diff_of}

@@ -7,8 +7,8 @@ use Rattle.std.proofs.lemmas.Slice.Eq.{bytes_eq-Decides}
 use Rattle.catalogue.specs.Mirrors.{is_mirror}
 use Rattle.catalogue.specs.declared.edit.Edit.{Edit}
 use Rattle.catalogue.specs.declared.mirror.Mirror.{Mirror}
-use Rattle.profile_tables.specs.Fields.{◌>>=◌}
-use Rattle.profile_tables.specs.Tables.{document}
+use Rattle.profile_toml.specs.Fields.{◌>>=◌}
+use Rattle.profile_toml.specs.Tables.{document}
 use Rattle.profile_toml.specs.Apps.{edits_of}
 use Rattle.profile_toml.specs.Documents.{document_of, entries, schema_of}
 use Rattle.profile_toml.specs.Laws.{AreMirrors}

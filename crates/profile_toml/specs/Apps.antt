@@ -5,10 +5,10 @@ use Rattle.std.specs.List.{flat_map}
 use Rattle.toml.specs.Data.{as_str}
 use Rattle.catalogue.specs.declared.edit.Edit.{Edit}
 use Rattle.catalogue.specs.declared.edit.Edit.TheVariants as edit
-use Rattle.profile_tables.specs.Fields.{◌>>=◌, known, required}
-use Rattle.profile_tables.specs.Lists.{each, optional_tables}
-use Rattle.profile_tables.specs.Tables.{PlacedTable}
-use Rattle.profile_tables.specs.declared.path.BadEntry.{BadEntry}
+use Rattle.profile_toml.specs.Fields.{◌>>=◌, known, required}
+use Rattle.profile_toml.specs.Lists.{each, optional_tables}
+use Rattle.profile_toml.specs.Tables.{PlacedTable}
+use Rattle.profile_toml.specs.declared.tables.path.BadEntry.{BadEntry}
 use Rattle.profile_toml.specs.Cohorts.{cohort_edits, cohorts_of, setting_edits}
 use Rattle.profile_toml.specs.Diffs.{diff_edits, diff_of}
 use Rattle.profile_toml.specs.Releases.{release_edits, release_of}

@@ -7,11 +7,11 @@ use Rattle.toml.specs.Data.{Items, no_items, item, as_bool, as_str}
 use Rattle.catalogue.specs.declared.edit.Edit.{Edit}
 use Rattle.catalogue.specs.declared.edit.Edit.TheVariants as edit
 use Rattle.catalogue.specs.declared.edits.cohort_settings.SetTarget.{SetTarget}
-use Rattle.profile_tables.specs.Fields.{◌>>=◌, as_natural, known, optional, required}
-use Rattle.profile_tables.specs.Lists.{element}
-use Rattle.profile_tables.specs.Paths.{invalid_key}
-use Rattle.profile_tables.specs.Tables.{PlacedList, PlacedTable}
-use Rattle.profile_tables.specs.declared.path.BadEntry.{BadEntry}
+use Rattle.profile_toml.specs.Fields.{◌>>=◌, as_natural, known, optional, required}
+use Rattle.profile_toml.specs.Lists.{element}
+use Rattle.profile_toml.specs.Paths.{invalid_key}
+use Rattle.profile_toml.specs.Tables.{PlacedList, PlacedTable}
+use Rattle.profile_toml.specs.declared.tables.path.BadEntry.{BadEntry}
 use Rattle.profile_toml.specs.declared.cohort.CohortEntry.{CohortEntry}
 
 -- the cohort has the name

@@ -4,9 +4,9 @@ use Rattle.toml.specs.Data.{as_str}
 use Rattle.catalogue.specs.declared.edits.diffs.AddDiff.{AddDiff}
 use Rattle.catalogue.specs.declared.edit.Edit.{Edit}
 use Rattle.catalogue.specs.declared.edit.Edit.TheVariants as edit
-use Rattle.profile_tables.specs.Fields.{◌>>=◌, as_natural, known, required}
-use Rattle.profile_tables.specs.Tables.{PlacedTable}
-use Rattle.profile_tables.specs.declared.path.BadEntry.{BadEntry}
+use Rattle.profile_toml.specs.Fields.{◌>>=◌, as_natural, known, required}
+use Rattle.profile_toml.specs.Tables.{PlacedTable}
+use Rattle.profile_toml.specs.declared.tables.path.BadEntry.{BadEntry}
 use Rattle.profile_toml.specs.declared.diff.DiffEntry.{DiffEntry}
 
 -- what is said of a differential: its releases and its package

@@ -4,9 +4,9 @@ use Rattle.std.specs.Prelude.{ℕ, ◌==◌, List, if◌then◌else◌, Option, 
 use Rattle.std.specs.Str.{is_utf8}
 use Rattle.toml.specs.Data.{Members}
 use Rattle.toml.specs.Parse.{parse_document}
-use Rattle.profile_tables.specs.Fields.{as_natural, required}
-use Rattle.profile_tables.specs.Tables.{PlacedTable}
-use Rattle.profile_tables.specs.declared.path.BadEntry.{BadEntry}
+use Rattle.profile_toml.specs.Fields.{as_natural, required}
+use Rattle.profile_toml.specs.Tables.{PlacedTable}
+use Rattle.profile_toml.specs.declared.tables.path.BadEntry.{BadEntry}
 use Rattle.profile_toml.specs.declared.document.Schema.{Schema}
 use Rattle.profile_toml.specs.declared.document.Schema.TheVariants as schema
 use Rattle.profile_toml.specs.declared.fault.ProfileFault.{ProfileFault}

@@ -6,7 +6,7 @@ use Rattle.catalogue.specs.Mirrors.{is_mirror}
 use Rattle.values.specs.Lists.{IsOnce}
 use Rattle.catalogue.specs.declared.edit.Edit.{Edit}
 use Rattle.catalogue.specs.declared.mirror.Mirror.{Mirror}
-use Rattle.profile_tables.specs.Laws.{IsOneLine}
+use Rattle.profile_toml.specs.TableLaws.{IsOneLine}
 use Rattle.profile_toml.specs.FaultStrings.{fault_string}
 use Rattle.profile_toml.specs.Mirrors.{is_named, max_mirrors}
 use Rattle.profile_toml.specs.Reading.{profile_of_bytes, script_of_bytes}

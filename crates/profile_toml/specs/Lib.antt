@@ -4,10 +4,17 @@ pub mod Cohorts
 pub mod Diffs
 pub mod Documents
 pub mod FaultStrings
+pub mod Fields
 pub mod Laws
+pub mod Lists
 pub mod Mirrors
+pub mod Paths
 pub mod Profiles
+pub mod Readers
 pub mod Reading
 pub mod Releases
 pub mod ScriptEdits
 pub mod Scripts
+pub mod Strings
+pub mod TableLaws
+pub mod Tables

@@ -3,10 +3,10 @@
 -- one, and app by app its own keys, its cohorts and its releases. A table's unknown keys are
 -- reported before its known ones.
 use Rattle.std.specs.Prelude.{ℕ, List, [], ◌∷◌, codes, Result, Ok}
-use Rattle.profile_tables.specs.Fields.{◌>>=◌, known}
-use Rattle.profile_tables.specs.Lists.{each, optional_tables, required_tables}
-use Rattle.profile_tables.specs.Tables.{PlacedTable}
-use Rattle.profile_tables.specs.declared.path.BadEntry.{BadEntry}
+use Rattle.profile_toml.specs.Fields.{◌>>=◌, known}
+use Rattle.profile_toml.specs.Lists.{each, optional_tables, required_tables}
+use Rattle.profile_toml.specs.Tables.{PlacedTable}
+use Rattle.profile_toml.specs.declared.tables.path.BadEntry.{BadEntry}
 use Rattle.profile_toml.specs.Apps.{app_of}
 use Rattle.profile_toml.specs.Mirrors.{mirror_of}
 use Rattle.profile_toml.specs.declared.document.Schema.{Schema}

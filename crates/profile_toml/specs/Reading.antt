@@ -4,8 +4,8 @@ use Rattle.std.specs.Prelude.{ℕ, List, Result, Ok}
 use Rattle.std.specs.Option.{ok_or}
 use Rattle.catalogue.specs.declared.edit.Edit.{Edit}
 use Rattle.catalogue.specs.declared.mirror.Mirror.{Mirror}
-use Rattle.profile_tables.specs.Fields.{◌>>=◌}
-use Rattle.profile_tables.specs.Tables.{document}
+use Rattle.profile_toml.specs.Fields.{◌>>=◌}
+use Rattle.profile_toml.specs.Tables.{document}
 use Rattle.profile_toml.specs.Apps.{edits_of}
 use Rattle.profile_toml.specs.Documents.{document_of, entries, schema_of}
 use Rattle.profile_toml.specs.Mirrors.{valid_mirrors}

@@ -4,10 +4,10 @@ use Rattle.toml.specs.Data.{as_bool, as_str}
 use Rattle.catalogue.specs.declared.edits.releases.AddRelease.{AddRelease}
 use Rattle.catalogue.specs.declared.edit.Edit.{Edit}
 use Rattle.catalogue.specs.declared.edit.Edit.TheVariants as edit
-use Rattle.profile_tables.specs.Fields.{◌>>=◌, as_natural, known, optional, required}
-use Rattle.profile_tables.specs.Tables.{PlacedTable}
-use Rattle.profile_tables.specs.Strings.{optional_strings}
-use Rattle.profile_tables.specs.declared.path.BadEntry.{BadEntry}
+use Rattle.profile_toml.specs.Fields.{◌>>=◌, as_natural, known, optional, required}
+use Rattle.profile_toml.specs.Tables.{PlacedTable}
+use Rattle.profile_toml.specs.Strings.{optional_strings}
+use Rattle.profile_toml.specs.declared.tables.path.BadEntry.{BadEntry}
 use Rattle.profile_toml.specs.declared.document.Schema.{Schema}
 use Rattle.profile_toml.specs.declared.document.Schema.TheVariants.{One, Two}
 use Rattle.profile_toml.specs.declared.release.PackageEntry.{PackageEntry}

@@ -20,11 +20,11 @@ use Rattle.catalogue.specs.declared.edits.release_settings.SetWithdrawn.{SetWith
 use Rattle.catalogue.specs.declared.edits.releases.AddRelease.{AddRelease}
 use Rattle.catalogue.specs.declared.edit.Edit.{Edit}
 use Rattle.catalogue.specs.declared.edit.Edit.TheVariants as edit
-use Rattle.profile_tables.specs.Fields.{◌>>=◌, as_natural, known, optional, required}
-use Rattle.profile_tables.specs.Paths.{invalid_key}
-use Rattle.profile_tables.specs.Tables.{PlacedTable}
-use Rattle.profile_tables.specs.Strings.{optional_strings}
-use Rattle.profile_tables.specs.declared.path.BadEntry.{BadEntry}
+use Rattle.profile_toml.specs.Fields.{◌>>=◌, as_natural, known, optional, required}
+use Rattle.profile_toml.specs.Paths.{invalid_key}
+use Rattle.profile_toml.specs.Tables.{PlacedTable}
+use Rattle.profile_toml.specs.Strings.{optional_strings}
+use Rattle.profile_toml.specs.declared.tables.path.BadEntry.{BadEntry}
 use Rattle.profile_toml.specs.Diffs.{diff_added_to, diff_in}
 use Rattle.profile_toml.specs.Releases.{added_to, package_in}
 use Rattle.profile_toml.specs.declared.document.Schema.{Schema}

@@ -2,10 +2,10 @@
 -- entry; this project's profile, schemas 1 and 2.
 use Rattle.std.specs.Prelude.{ℕ, nat_le, List, [], ◌∷◌, length, codes, if◌then◌else◌, Result, Ok, Err}
 use Rattle.catalogue.specs.declared.edit.Edit.{Edit}
-use Rattle.profile_tables.specs.Fields.{◌>>=◌, as_natural, known, required}
-use Rattle.profile_tables.specs.Lists.{each, optional_tables}
-use Rattle.profile_tables.specs.Tables.{PlacedTable}
-use Rattle.profile_tables.specs.declared.path.BadEntry.{BadEntry}
+use Rattle.profile_toml.specs.Fields.{◌>>=◌, as_natural, known, required}
+use Rattle.profile_toml.specs.Lists.{each, optional_tables}
+use Rattle.profile_toml.specs.Tables.{PlacedTable}
+use Rattle.profile_toml.specs.declared.tables.path.BadEntry.{BadEntry}
 use Rattle.profile_toml.specs.ScriptEdits.{edit_of}
 use Rattle.profile_toml.specs.declared.document.Schema.{Schema}
 use Rattle.profile_toml.specs.declared.fault.ProfileFault.{ProfileFault}

@@ -3,7 +3,7 @@
 ghost use Rattle.std.specs.Prelude.{◌≡◌, ◌++◌, IfOk, OnOk};
 ghost use Rattle.std.specs.List.{flat_map};
 ghost use Rattle.values.specs.Reading.{Reads};
-ghost use Rattle.profile_tables.specs.Readers.{placed};
+ghost use Rattle.profile_toml.specs.Readers.{placed};
 ghost use Rattle.profile_toml.specs.Apps.{app_edits, app_of, edits_of};
 ghost use Rattle.profile_toml.specs.Cohorts.{cohort_edits, setting_edits};
 ghost use Rattle.profile_toml.specs.Diffs.{diff_edits};
@@ -13,8 +13,8 @@ use crate::cohort::{CohortEntry, push_cohort, push_settings, read_cohorts};
 use crate::diff::{DiffEntry, DiffTable, push_diff};
 use crate::document::Schema;
 use crate::release::{ReleaseEntry, ReleaseTable, push_release};
+use crate::tables::{BadEntry, TableKind, TableReader};
 use catalogue::{AddApp, Edit};
-use profile_tables::{BadEntry, TableKind, TableReader};
 use std::alloc::{AllocError, Global};
 use values::{Items, ReadError, Text};
 

@@ -3,11 +3,11 @@
 ghost use Rattle.std.specs.Prelude.{◌≡◌, ◌++◌, [], ◌∷◌, IfOk, OnOk};
 ghost use Rattle.std.specs.List.{list_any};
 ghost use Rattle.values.specs.Reading.{Reads};
-ghost use Rattle.profile_tables.specs.Readers.{listed, placed};
+ghost use Rattle.profile_toml.specs.Readers.{listed, placed};
 ghost use Rattle.profile_toml.specs.Cohorts.{cohort_edits, cohort_of, cohorts_of, is_named, new_name, open_edits, rollback_edits, setting_edits, share_edits, target_edits};
 
+use crate::tables::{BadEntry, TableList, TableReader};
 use catalogue::{AddCohort, Edit, SetOpen, SetRollback, SetShare, SetTarget};
-use profile_tables::{BadEntry, TableList, TableReader};
 use std::alloc::{AllocError, Global};
 use std::collections::BTreeSet;
 use std::marker::Model;

@@ -2,11 +2,11 @@
 
 ghost use Rattle.std.specs.Prelude.{◌≡◌, ◌++◌, OnOk};
 ghost use Rattle.values.specs.Reading.{Reads};
-ghost use Rattle.profile_tables.specs.Readers.{placed};
+ghost use Rattle.profile_toml.specs.Readers.{placed};
 ghost use Rattle.profile_toml.specs.Diffs.{diff_added_to, diff_edits, diff_in, diff_of};
 
+use crate::tables::{BadEntry, TableKind, TableReader};
 use catalogue::{AddDiff, Edit};
-use profile_tables::{BadEntry, TableKind, TableReader};
 use std::alloc::AllocError;
 use values::{Items, ReadError, Text};
 

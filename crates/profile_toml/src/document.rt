@@ -3,12 +3,12 @@
 ghost use Rattle.std.specs.Option.{ok_or};
 ghost use Rattle.values.specs.Reading.{Reads};
 ghost use Rattle.toml.specs.View.{table_view};
-ghost use Rattle.profile_tables.specs.Readers.{placed};
+ghost use Rattle.profile_toml.specs.Readers.{placed};
 ghost use Rattle.profile_toml.specs.Documents.{document_of, schema_of};
 ghost use Rattle.profile_toml.specs.declared.fault.ProfileFault.TheVariants.{NotToml};
 
 use crate::fault::ProfileFault;
-use profile_tables::TableReader;
+use crate::tables::TableReader;
 use std::alloc::Global;
 use toml::Table;
 use values::ReadError;

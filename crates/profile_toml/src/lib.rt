@@ -7,7 +7,7 @@
 //! for a profile's edits in their order, `specs/ScriptEdits.antt` for the edits of a script, and `laws`
 //! for what holds of every profile.
 //!
-//! The keys of a table and their paths are read by `profile_tables`. This crate does not apply a batch
+//! The keys of a table and their paths are read by `profile_toml`. This crate does not apply a batch
 //! and does not check what an edit says: that is `catalogue`. It does not write profiles.
 
 #![tactic(auto)]
@@ -23,7 +23,9 @@ mod profile;
 mod release;
 mod script;
 mod script_edit;
+pub mod tables;
 
 pub use crate::fault::ProfileFault;
 pub use crate::profile::read_profile;
 pub use crate::script::read_script;
+pub use crate::tables::{BadEntry, TableKind, TableList, TableReader};

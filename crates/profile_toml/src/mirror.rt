@@ -3,12 +3,12 @@
 ghost use Rattle.std.specs.Prelude.{◌≡◌, []};
 ghost use Rattle.std.specs.List.{list_any};
 ghost use Rattle.values.specs.Reading.{Reads};
-ghost use Rattle.profile_tables.specs.Readers.{placed};
+ghost use Rattle.profile_toml.specs.Readers.{placed};
 ghost use Rattle.profile_toml.specs.Mirrors.{invalid_mirror, first_invalid_after, valid_mirrors, is_invalid_after, is_named, mirror_of};
 
 use crate::fault::ProfileFault;
+use crate::tables::{BadEntry, TableKind, TableReader};
 use catalogue::Mirror;
-use profile_tables::{BadEntry, TableKind, TableReader};
 use values::{Items, ReadError};
 
 const MAX_MIRRORS: usize = 4;

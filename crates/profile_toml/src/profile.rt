@@ -1,7 +1,7 @@
 //! Profiles.
 
 ghost use Rattle.values.specs.Reading.{Reads};
-ghost use Rattle.profile_tables.specs.Readers.{placed};
+ghost use Rattle.profile_toml.specs.Readers.{placed};
 ghost use Rattle.profile_toml.specs.Documents.{entries};
 ghost use Rattle.profile_toml.specs.Profiles.{profile_of};
 ghost use Rattle.profile_toml.specs.Reading.{profile_of_bytes};
@@ -10,8 +10,8 @@ use crate::app::{AppEntry, AppTable, edits_of};
 use crate::document::{Schema, parse, read_schema};
 use crate::fault::ProfileFault;
 use crate::mirror::{MirrorTable, check_mirrors};
+use crate::tables::{BadEntry, TableReader};
 use catalogue::{Batch, Mirror};
-use profile_tables::{BadEntry, TableReader};
 use std::alloc::Global;
 use values::{Items, ReadError};
 

@@ -2,13 +2,13 @@
 
 ghost use Rattle.std.specs.Prelude.{◌≡◌, ◌++◌, OnOk};
 ghost use Rattle.values.specs.Reading.{Reads};
-ghost use Rattle.profile_tables.specs.Fields.{known};
-ghost use Rattle.profile_tables.specs.Readers.{placed};
+ghost use Rattle.profile_toml.specs.Fields.{known};
+ghost use Rattle.profile_toml.specs.Readers.{placed};
 ghost use Rattle.profile_toml.specs.Releases.{added_to, audience_edits, floor_edits, package_in, release_edits, release_keys, release_of, stone_edits, withdrawn_edits};
 
 use crate::document::Schema;
+use crate::tables::{BadEntry, TableKind, TableReader};
 use catalogue::{AddRelease, Edit, SetAudience, SetFloor, SetStone, SetWithdrawn};
-use profile_tables::{BadEntry, TableKind, TableReader};
 use std::alloc::AllocError;
 use values::{Items, ReadError, Text};
 

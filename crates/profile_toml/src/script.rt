@@ -1,7 +1,7 @@
 //! Scripts.
 
 ghost use Rattle.values.specs.Reading.{Reads};
-ghost use Rattle.profile_tables.specs.Readers.{placed};
+ghost use Rattle.profile_toml.specs.Readers.{placed};
 ghost use Rattle.profile_toml.specs.Documents.{entries};
 ghost use Rattle.profile_toml.specs.Reading.{script_of_bytes};
 ghost use Rattle.profile_toml.specs.Scripts.{few_edits, script_of};
@@ -9,8 +9,8 @@ ghost use Rattle.profile_toml.specs.Scripts.{few_edits, script_of};
 use crate::document::{Schema, parse, read_schema};
 use crate::fault::ProfileFault;
 use crate::script_edit::EditTable;
+use crate::tables::{BadEntry, TableReader};
 use catalogue::{Batch, Edit};
-use profile_tables::{BadEntry, TableReader};
 use std::alloc::Global;
 use values::{Items, ReadError};
 

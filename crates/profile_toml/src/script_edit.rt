@@ -2,18 +2,18 @@
 
 ghost use Rattle.std.specs.Prelude.{◌≡◌};
 ghost use Rattle.values.specs.Reading.{Reads};
-ghost use Rattle.profile_tables.specs.Readers.{placed};
+ghost use Rattle.profile_toml.specs.Readers.{placed};
 ghost use Rattle.profile_toml.specs.ScriptEdits.{app_added, audience_set, cohort_added, diff_added, edit_in, edit_of, floor_set, open_set, release_added, rollback_set, share_set, stone_set, target_set, verb_named, verb_of, withdrawn_set};
 ghost use Rattle.profile_toml.specs.declared.document.Schema.TheVariants.{One};
 
 use crate::diff::{diff_added_to, read_diff_package};
 use crate::document::Schema;
 use crate::release::{added_to, read_package};
+use crate::tables::{BadEntry, TableKind, TableReader};
 use catalogue::{
     AddApp, AddCohort, AddDiff, AddRelease, Edit, SetAudience, SetFloor, SetOpen, SetRollback,
     SetShare, SetStone, SetTarget, SetWithdrawn,
 };
-use profile_tables::{BadEntry, TableKind, TableReader};
 use values::ReadError;
 
 /// A kind of edit, which a script names by `do`.

@@ -12,8 +12,8 @@ use Rattle.catalogue.specs.declared.content.Diff.{Diff}
 use Rattle.catalogue.specs.declared.content.Release.{Release}
 use Rattle.catalogue.specs.declared.mirror.Mirror.{Mirror}
 use Rattle.toml.specs.Data.{Members, get_member}
-use Rattle.profile_tables.specs.Fields.{known}
-use Rattle.profile_tables.specs.Tables.{document, table_at}
+use Rattle.profile_toml.specs.Fields.{known}
+use Rattle.profile_toml.specs.Tables.{document, table_at}
 use Rattle.profile_toml.specs.Apps.{app_keys, app_of}
 use Rattle.profile_toml.specs.Cohorts.{cohort_keys, cohort_of, cohorts_after, is_named, new_name}
 use Rattle.profile_toml.specs.Diffs.{diff_of}
@@ -21,7 +21,7 @@ use Rattle.profile_toml.specs.Documents.{newest}
 use Rattle.profile_toml.specs.Mirrors.{mirror_of}
 use Rattle.profile_toml.specs.Profiles.{profile_keys, profile_of}
 use Rattle.profile_toml.specs.Releases.{release_of}
-use Rattle.profile_tables.specs.Lists.{each_from}
+use Rattle.profile_toml.specs.Lists.{each_from}
 use Rattle.values.proofs.SplitLemmas.{list_any-before, split_next}
 use Rattle.values.specs.Lists.{IsOnce}
 use Rattle.profile_writer.proofs.EntryLemmas.{Read, diff_of-diff_table, entry_of_diff, entry_of_release, mirror_of-mirror_table, release_of-release_table, unwrap_or-given}

@@ -6,9 +6,9 @@ use Rattle.catalogue.specs.declared.content.Diff.{Diff}
 use Rattle.catalogue.specs.declared.content.Release.{Release}
 use Rattle.catalogue.specs.declared.mirror.Mirror.{Mirror}
 use Rattle.toml.specs.Data.{Members, get_member}
-use Rattle.profile_tables.specs.Fields.{known}
-use Rattle.profile_tables.specs.Tables.{PlacedTable, table_at}
-use Rattle.profile_tables.specs.declared.path.BadEntry.{BadEntry}
+use Rattle.profile_toml.specs.Fields.{known}
+use Rattle.profile_toml.specs.Tables.{PlacedTable, table_at}
+use Rattle.profile_toml.specs.declared.tables.path.BadEntry.{BadEntry}
 use Rattle.profile_toml.specs.Diffs.{diff_in, diff_keys, diff_of}
 use Rattle.profile_toml.specs.Documents.{newest}
 use Rattle.profile_toml.specs.Mirrors.{mirror_keys, mirror_of}

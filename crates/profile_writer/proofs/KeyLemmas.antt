@@ -10,7 +10,7 @@ use Rattle.std.specs.List.{AllByRecursion, list_all, list_any}
 use Rattle.std.specs.Ordering.{match_ordering}
 use Rattle.std.specs.Str.{bytes_eq}
 use Rattle.toml.specs.Data.{Data, Members, member, no_members, get_member, same_key, depth, members_depth}
-use Rattle.profile_tables.specs.Fields.{known_among}
+use Rattle.profile_toml.specs.Fields.{known_among}
 use Rattle.profile_writer.specs.Tables.{Field, put, filled_table, with_fields, with_key}
 
 -- keys that compare as equal are equal

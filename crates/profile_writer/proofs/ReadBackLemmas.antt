@@ -8,7 +8,7 @@ use Rattle.catalogue.specs.Validity.{IsValidApp}
 use Rattle.catalogue.specs.declared.content.App.{App}
 use Rattle.catalogue.specs.declared.mirror.Mirror.{Mirror}
 use Rattle.toml.specs.Parse.{parse_document}
-use Rattle.profile_tables.specs.Tables.{document}
+use Rattle.profile_toml.specs.Tables.{document}
 use Rattle.profile_toml.specs.Documents.{newest, schema_of}
 use Rattle.profile_toml.specs.Laws.{AreMirrors}
 use Rattle.profile_toml.specs.Reading.{profile_of_bytes}

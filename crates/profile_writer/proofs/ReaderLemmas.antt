@@ -2,12 +2,12 @@
 use Rattle.std.proofs.Common.{◌≡◌, ℕ, ◌+◌, Bool, true, false, List, [], ◌∷◌, map, Option, Some, None, Result, Ok, refl}
 use Rattle.std.specs.List.{AllByRecursion}
 use Rattle.toml.specs.Data.{Members, get_member, as_bool, as_str}
-use Rattle.profile_tables.specs.Fields.{as_natural, optional, required}
-use Rattle.profile_tables.specs.Lists.{all_tables, each_from, optional_tables, required_tables, tables_of}
-use Rattle.profile_tables.specs.Paths.{path_of}
-use Rattle.profile_tables.specs.Tables.{PlacedTable, list_at, table_at}
-use Rattle.profile_tables.specs.Strings.{optional_strings, strings_from, strings_of}
-use Rattle.profile_tables.specs.declared.path.BadEntry.{BadEntry}
+use Rattle.profile_toml.specs.Fields.{as_natural, optional, required}
+use Rattle.profile_toml.specs.Lists.{all_tables, each_from, optional_tables, required_tables, tables_of}
+use Rattle.profile_toml.specs.Paths.{path_of}
+use Rattle.profile_toml.specs.Tables.{PlacedTable, list_at, table_at}
+use Rattle.profile_toml.specs.Strings.{optional_strings, strings_from, strings_of}
+use Rattle.profile_toml.specs.declared.tables.path.BadEntry.{BadEntry}
 use Rattle.profile_writer.specs.Tables.{flag, natural, optional_natural, optional_string, optional_list, table_items, tables, given_string, string_items}
 
 -- a flag as it is given

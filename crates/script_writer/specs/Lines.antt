@@ -3,7 +3,7 @@ use Rattle.std.specs.Prelude.{ℕ, ◌==◌, if◌then◌else◌, Bool, List, []
 use Rattle.std.specs.List.{after_first, before_first, flat_map, position_or_len}
 use Rattle.std.specs.Str.{bytes_eq}
 use Rattle.toml_writer.specs.Text.{key_text, string_text}
-use Rattle.profile_tables.specs.Fields.{◌>>=◌}
+use Rattle.profile_toml.specs.Fields.{◌>>=◌}
 use Rattle.profile_toml.specs.Reading.{script_of_bytes}
 use Rattle.profile_toml.specs.declared.fault.ProfileFault.{ProfileFault}
 use Rattle.script_writer.specs.Values.{value_string}

@@ -1,6 +1,6 @@
 use Rattle.std.proofs.Common.{◌≡◌, [], drop}
 use Rattle.toml.specs.View.{items_view}
-use Rattle.profile_tables.specs.Readers.{listed}
+use Rattle.profile_toml.specs.Readers.{listed}
 use Rattle.profile_toml.specs.Cohorts.{cohorts_after}
 use Rattle.profile_toml.proofs.cohort.read_cohorts.Given as goal
 

@@ -1,7 +1,7 @@
 use Rattle.std.proofs.Common.{subst, sym}
 use Rattle.values.specs.Reading.{Reads}
-use Rattle.profile_tables.specs.Fields.{known}
-use Rattle.profile_tables.specs.Readers.{placed}
+use Rattle.profile_toml.specs.Fields.{known}
+use Rattle.profile_toml.specs.Readers.{placed}
 use Rattle.profile_toml.specs.Releases.{release_keys}
 use Rattle.profile_toml.specs.declared.document.Schema.{Schema}
 use Rattle.profile_toml.proofs.release.check_release_keys.Goals as goal

@@ -1,4 +1,0 @@
-pub mod FaultLemmas
-pub mod LineLemmas
-mod ListLemmas
-pub mod PathLemmas

@@ -1,6 +1,0 @@
-use Rattle.toml.proofs.Views.{table_get}
-use Rattle.profile_tables.proofs.reader.TableReader.value.Goals as goal
-
-pub returns : goal.returns
-returns c =
-    table_get c.get.result c.args.key.now c.args.self.now.table.now.entries c.get.ensures.value
