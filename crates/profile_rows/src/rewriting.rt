@@ -3,8 +3,7 @@
 ghost use Rattle.profile_toml.specs.Laws.{AreMirrors};
 
 use catalogue::{Batch, Catalogue, Mirror, Refused};
-use profile_toml::read_profile;
-use profile_writer::write_profile;
+use profile_toml::{read_profile, write_profile};
 use std::alloc::Global;
 use std::process::Abort;
 use std::test::Fail;

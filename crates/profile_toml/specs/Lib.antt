@@ -18,3 +18,8 @@ pub mod Scripts
 pub mod Strings
 pub mod TableLaws
 pub mod Tables
+pub mod Writers
+pub mod WrittenFields
+pub mod WrittenLaws
+pub mod WrittenProfiles
+pub mod WrittenTables

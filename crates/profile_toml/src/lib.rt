@@ -24,8 +24,10 @@ mod release;
 mod script;
 mod script_edit;
 pub mod tables;
+pub mod writing;
 
 pub use crate::fault::ProfileFault;
 pub use crate::profile::read_profile;
 pub use crate::script::read_script;
 pub use crate::tables::{BadEntry, TableKind, TableList, TableReader};
+pub use crate::writing::write_profile;

@@ -2,7 +2,7 @@
 use Rattle.std.specs.Prelude.{ℕ, List}
 use Rattle.editions.specs.Editions.{content_of}
 use Rattle.kept_records.specs.declared.record.Record.{Record}
-use Rattle.profile_writer.specs.Profiles.{IsProfileFile, IsReadAs}
+use Rattle.profile_toml.specs.WrittenProfiles.{IsProfileFile, IsReadAs}
 use Rattle.restarts.specs.Restarting.{Found, LeadTo}
 
 -- bytes are the profile of the content and the mirrors that records lead to, and are read as them

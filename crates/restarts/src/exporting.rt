@@ -8,7 +8,7 @@ use crate::fault::RestoreError;
 use crate::restoring::{Restored, restore};
 use kept_records::{Kind, Record};
 use par_tables::{Free, Gate};
-use profile_writer::write_profile;
+use profile_toml::write_profile;
 use std::alloc::Global;
 use std::thread::Threads;
 

@@ -7,7 +7,7 @@ use Rattle.http_desks.specs.declared.desk.DeskStatus.{DeskStatus}
 use Rattle.http_desks.specs.declared.desk.DeskStatus.TheVariants as status
 use Rattle.http_desks.specs.declared.desk.Off.{Off}
 use Rattle.http_desks.specs.declared.desk.Off.TheVariants as off
-use Rattle.profile_writer.specs.Profiles.{IsProfileFile, IsReadAs}
+use Rattle.profile_toml.specs.WrittenProfiles.{IsProfileFile, IsReadAs}
 use Rattle.catalogue.specs.declared.mirror.Mirror.{Mirror}
 use Rattle.service_desks.specs.Following.{Follows, GivesWay, follow_word}
 use Rattle.service_desks.specs.Raises.{RaisesBy, is_raise}

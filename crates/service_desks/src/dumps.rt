@@ -6,7 +6,7 @@ ghost use Rattle.service_desks.specs.Operators.{Dumps};
 
 use http_desks::{Answer, DeskStatus, Off};
 use mirror_ledger::Budgets;
-use profile_writer::write_profile;
+use profile_toml::write_profile;
 use publisher::Press;
 use std::alloc::Global;
 

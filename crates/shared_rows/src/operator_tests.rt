@@ -2,7 +2,7 @@
 
 use crate::desk::{bodies_of, first_wrong, push_body, replies_to};
 use fixtures::{CHAINED, catalogue_of_profile, mirrors_of_profile};
-use profile_writer::write_profile;
+use profile_toml::write_profile;
 use std::alloc::Global;
 use std::sync::Wait;
 use std::thread::Threads;

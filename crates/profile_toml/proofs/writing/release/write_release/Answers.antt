@@ -1,0 +1,5 @@
+use Rattle.std.proofs.Common.{rules}
+use Rattle.profile_toml.proofs.writing.release.write_release.Goals as goal
+
+pub returns : goal.returns
+returns c = search rules

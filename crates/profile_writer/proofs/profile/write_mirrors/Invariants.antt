@@ -1,8 +1,0 @@
-use Rattle.std.proofs.Common.{◌≡◌, map, take}
-use Rattle.toml.specs.View.{table_view}
-use Rattle.profile_writer.specs.Fields.{mirror_table}
-use Rattle.profile_writer.proofs.profile.write_mirrors.Given as goal
-
-abbrev pub invariant-loop-mirror : goal.invariant-loop-mirror
-invariant-loop-mirror l =
-    map table_view l.tables.items ≡ map mirror_table (take l.mirror-index l.mirrors)

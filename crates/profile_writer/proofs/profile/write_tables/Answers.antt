@@ -1,9 +1,0 @@
-use Rattle.std.proofs.Common.{rules}
-use Rattle.profile_writer.proofs.SizeLemmas.{mirrors_below}
-use Rattle.profile_writer.proofs.profile.write_tables.Goals as goal
-
-pub write_mirrors-requires : goal.write_mirrors-requires
-write_mirrors-requires c = mirrors_below c.args.mirrors.now c.requires.formed
-
-pub returns : goal.returns
-returns c = search rules

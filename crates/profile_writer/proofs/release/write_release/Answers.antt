@@ -1,5 +1,0 @@
-use Rattle.std.proofs.Common.{rules}
-use Rattle.profile_writer.proofs.release.write_release.Goals as goal
-
-pub returns : goal.returns
-returns c = search rules

@@ -1,7 +1,0 @@
--- The table that a writer has filled so far; private to this crate.
-use Rattle.toml.specs.Data.{Members}
-use Rattle.toml.specs.View.{table_view}
-use Rattle.profile_writer.specs.declared.table.TableWriter.{TableWriter}
-
-abbrev pub filled : TableWriter → Members
-filled writer = table_view writer.table
