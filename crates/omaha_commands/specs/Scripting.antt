@@ -1,7 +1,7 @@
 -- What the command `script` prints; this project's profile.
 use Rattle.std.specs.Prelude.{◌≡◌, ◌⊎◌, ℕ, List, Result, Ok, Err}
 use Rattle.profile_toml.specs.declared.fault.ProfileFault.{ProfileFault}
-use Rattle.script_writer.specs.Lines.{script_written}
+use Rattle.profile_toml.specs.Lines.{script_written}
 use Rattle.omaha_arguments.specs.declared.command.Base.{Base}
 use Rattle.omaha_arguments.specs.declared.command.Base.TheVariants.{Number, Server}
 use Rattle.omaha_arguments.specs.declared.command.Script.{Script}

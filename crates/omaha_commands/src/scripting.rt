@@ -8,7 +8,7 @@ use crate::asking::{SECONDS, edition_at};
 use crate::failure::Failure;
 use crate::printing::print;
 use omaha_arguments::{Base, Script};
-use script_writer::write_script;
+use profile_toml::write_script;
 use std::alloc::Global;
 use streams::WriteWhole;
 use update_client::Connector;

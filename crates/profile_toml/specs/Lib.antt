@@ -6,6 +6,7 @@ pub mod Documents
 pub mod FaultStrings
 pub mod Fields
 pub mod Laws
+pub mod Lines
 pub mod Lists
 pub mod Mirrors
 pub mod Paths
@@ -18,6 +19,7 @@ pub mod Scripts
 pub mod Strings
 pub mod TableLaws
 pub mod Tables
+pub mod Values
 pub mod Writers
 pub mod WrittenFields
 pub mod WrittenLaws

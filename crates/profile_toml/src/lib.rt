@@ -23,11 +23,13 @@ mod profile;
 mod release;
 mod script;
 mod script_edit;
+mod script_lines;
 pub mod tables;
 pub mod writing;
 
 pub use crate::fault::ProfileFault;
 pub use crate::profile::read_profile;
 pub use crate::script::read_script;
+pub use crate::script_lines::write_script;
 pub use crate::tables::{BadEntry, TableKind, TableList, TableReader};
 pub use crate::writing::write_profile;

@@ -2,10 +2,11 @@
 
 ghost use Rattle.std.specs.Prelude.{◌≡◌, ◌++◌, IfOk, OnOk, string_bytes};
 ghost use Rattle.values.specs.Reading.{Reads};
-ghost use Rattle.script_writer.specs.Lines.{head_string, script_string, script_written, words_string};
+ghost use Rattle.profile_toml.specs.Lines.{head_string, script_string, script_written, words_string};
 
-use crate::word::push_word;
-use profile_toml::{ProfileFault, read_script};
+use crate::fault::ProfileFault;
+use crate::script::read_script;
+use crate::script_lines::word::push_word;
 use std::alloc::{AllocError, Global};
 use values::{ReadError, Text};
 

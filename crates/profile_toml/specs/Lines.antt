@@ -6,7 +6,7 @@ use Rattle.toml_writer.specs.Text.{key_text, string_text}
 use Rattle.profile_toml.specs.Fields.{◌>>=◌}
 use Rattle.profile_toml.specs.Reading.{script_of_bytes}
 use Rattle.profile_toml.specs.declared.fault.ProfileFault.{ProfileFault}
-use Rattle.script_writer.specs.Values.{value_string}
+use Rattle.profile_toml.specs.Values.{value_string}
 
 -- the sign between a key and its value
 abbrev pub is_equals : ℕ → Bool

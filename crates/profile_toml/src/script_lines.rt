@@ -6,10 +6,8 @@
 //!
 //! It does not check what an edit says: that is `catalogue`.
 
-#![tactic(auto)]
-
 mod script;
 mod value;
 mod word;
 
-pub use crate::script::write_script;
+pub use crate::script_lines::script::write_script;

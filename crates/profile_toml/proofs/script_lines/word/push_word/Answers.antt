@@ -1,5 +1,5 @@
 use Rattle.std.proofs.Common.{rules}
-use Rattle.script_writer.proofs.word.push_word.Goals as goal
+use Rattle.profile_toml.proofs.script_lines.word.push_word.Goals as goal
 
 pub returns-in-Some : goal.returns-in-Some
 returns-in-Some c = search rules

@@ -1,9 +1,9 @@
 //! The lines of a script's words.
 
 ghost use Rattle.std.specs.Prelude.{◌≡◌, ◌++◌, OnOk};
-ghost use Rattle.script_writer.specs.Lines.{edit_string, pair_string, word_string};
+ghost use Rattle.profile_toml.specs.Lines.{edit_string, pair_string, word_string};
 
-use crate::value::{Key, Quoted, push_value};
+use crate::script_lines::value::{Key, Quoted, push_value};
 use std::alloc::{AllocError, Global};
 
 // Adds the beginning of an edit.

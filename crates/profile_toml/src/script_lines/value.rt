@@ -4,7 +4,7 @@ ghost use Rattle.std.specs.Prelude.{◌≡◌, ◌++◌, OnOk, Some};
 ghost use Rattle.std.specs.Char.{is_ascii_digit};
 ghost use Rattle.std.specs.List.{list_all};
 ghost use Rattle.toml_writer.specs.Text.{key_text, string_text};
-ghost use Rattle.script_writer.specs.Values.{are_names, is_bare, is_flag, is_natural, is_plain, list_string, name_bytes, value_string};
+ghost use Rattle.profile_toml.specs.Values.{are_names, is_bare, is_flag, is_natural, is_plain, list_string, name_bytes, value_string};
 
 use std::alloc::{AllocError, Global};
 use std::fmt;
