@@ -20,7 +20,6 @@ pub use kept_records::Stores;
 pub use omaha_arguments::{Command, Comparison, Once, Publication, Question, Report, Serve, Walk};
 pub use omaha_commands::{Failure, HistoryFault, read_service, report_on};
 pub use omaha_histories::{ReportedRecords, ReportingStores};
-pub use omaha_once::{answer, respond};
 pub use omaha_server::{Place, ServedPort, ServedPorts, ServerError};
 pub use package_files::Folders;
 pub use services::{Service, builtin_service};

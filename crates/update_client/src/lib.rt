@@ -52,5 +52,4 @@ pub use crate::presence::Patience;
 pub use crate::printed_walk::walk_app;
 pub use crate::walk_at::{Connector, Limits};
 pub use crate::walking::{MAX_STEPS, Walk};
-pub use http_client_heads::LinkFault;
 pub use values::Failed;
