@@ -2,7 +2,7 @@
 use Rattle.std.specs.Prelude.{ℕ, ⊤, ◌&&◌, Bool, if◌then◌else◌, List, [], ◌∷◌, codes, length, nat_lt}
 use Rattle.clap.specs.Words.{App, Kinds, Row, new_app, with_rule}
 use Rattle.clap.specs.declared.error.kind.ErrorKind.TheVariants.{ValueValidation}
-use Rattle.omaha_json_client.specs.RequestWriting.{IsAppid}
+use Rattle.omaha_json.specs.RequestWriting.{IsAppid}
 use Rattle.omaha_arguments.specs.OperatorArguments.{faults_of_timeout, seconds_of_timeout}
 use Rattle.omaha_arguments.specs.Options.{flag_in, flag_named, option_named, string_in, wanted_option}
 use Rattle.omaha_arguments.specs.declared.command.Command.{Command}

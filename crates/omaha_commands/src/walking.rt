@@ -1,7 +1,7 @@
 // The command `walk`.
 
 ghost use Rattle.std.specs.Prelude.{◌≡◌, IfOk, IfErr, Ok, Err, string_bytes};
-ghost use Rattle.omaha_json_client.specs.RequestWriting.{IsAppid};
+ghost use Rattle.omaha_json.specs.RequestWriting.{IsAppid};
 ghost use Rattle.update_client.specs.Lines.{done_line};
 ghost use Rattle.omaha_commands.specs.Walking.{WalksOn, client_of};
 ghost use Rattle.streams.specs.Streams.{Known};

@@ -1,7 +1,11 @@
+pub mod ClientFaults
 pub mod Faults
 pub mod Members
 pub mod ReplyExamples
+pub mod ReplyReading
 pub mod ReplyWriting
 pub mod RequestExamples
 pub mod RequestReading
+pub mod RequestWriting
 pub mod Sending
+pub mod Soundness

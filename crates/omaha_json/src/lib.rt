@@ -7,10 +7,11 @@
 //! replies with their records.
 //!
 //! It does not decide the reply to a request: `replies` does. It does not write requests or read
-//! replies: `omaha_json_client` does.
+//! replies: `omaha_json` does.
 
 #![tactic(auto)]
 
+pub mod client;
 mod fault;
 pub mod laws;
 mod offer_writer;
@@ -20,6 +21,7 @@ mod request;
 mod request_reader;
 mod sending;
 
+pub use crate::client::{ReplyFault, read_reply, write_request};
 pub use crate::fault::RequestFault;
 pub use crate::reply::{AppReply, AppState, CheckReply, KnownApp, Offer, Part, Reply};
 pub use crate::reply_writer::write_reply;

@@ -1,7 +1,6 @@
 ghost use Rattle.std.specs.Prelude.{◌≡◌, ◌<◌, ◌≤◌, length, IfOk};
 
-use omaha_json::{AppAsk, Check, Request};
-use omaha_json_client::write_request;
+use omaha_json::{AppAsk, Check, Request, write_request};
 use std::alloc::{AllocError, Global};
 use std::process::Abort;
 use std::test::Fail;

@@ -1,8 +1,7 @@
 // The bodies of the corpus: what each is read as.
 
 use corpus::{REPLIES, REQUESTS, case_of};
-use omaha_json::read_request;
-use omaha_json_client::read_reply;
+use omaha_json::{read_reply, read_request};
 use std::alloc::Global;
 use values::ReadError;
 

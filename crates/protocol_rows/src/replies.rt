@@ -1,6 +1,5 @@
 use crate::rows::{between, check};
-use omaha_json::{AppReply, AppState, CheckReply, KnownApp, Offer, Part, Reply};
-use omaha_json_client::read_reply;
+use omaha_json::{AppReply, AppState, CheckReply, KnownApp, Offer, Part, Reply, read_reply};
 use std::alloc::{AllocError, Global};
 use std::process::Abort;
 use std::test::Fail;

@@ -5,8 +5,8 @@ use Rattle.std.proofs.lemmas.List.{append_cancel_left}
 use Rattle.omaha_json.specs.declared.reply.Reply.{Reply}
 use Rattle.omaha_json.specs.declared.reply.Offer.{Offer}
 use Rattle.omaha_json.specs.ReplyWriting.{reply_bytes}
-use Rattle.omaha_json_client.specs.ReplyReading.{reply_of_bytes}
-use Rattle.omaha_json_client.specs.Soundness.{IsSound}
+use Rattle.omaha_json.specs.ReplyReading.{reply_of_bytes}
+use Rattle.omaha_json.specs.Soundness.{IsSound}
 use Rattle.payload_graph.specs.Chains.{IsAtTarget}
 use Rattle.quotes.specs.Sums.{IsLeast}
 use Rattle.editions.specs.Editions.{content_of}

@@ -15,8 +15,8 @@ use Rattle.omaha_json.specs.declared.reply.Offer.{Offer}
 use Rattle.omaha_json.specs.declared.reply.Reply.{Reply}
 use Rattle.omaha_json.specs.declared.request.AppAsk.{AppAsk}
 use Rattle.omaha_json.specs.ReplyWriting.{reply_bytes}
-use Rattle.omaha_json_client.specs.ReplyReading.{reply_of_bytes}
-use Rattle.omaha_json_client.specs.Soundness.{IsSound}
+use Rattle.omaha_json.specs.ReplyReading.{reply_of_bytes}
+use Rattle.omaha_json.specs.Soundness.{IsSound}
 use Rattle.replies.specs.Plans.{payload_in, payloads_of}
 use Rattle.replies.specs.Clients.{client_of}
 use Rattle.replies.specs.Replies.{reply_of}

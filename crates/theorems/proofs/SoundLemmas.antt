@@ -25,7 +25,7 @@ use Rattle.cohorts.proofs.BucketLemmas.{session_bucket-small}
 use Rattle.cohorts.proofs.CohortTextLemmas.{printed-parsed}
 use Rattle.cohorts.specs.CohortTexts.{parsed}
 use Rattle.cohorts.specs.Tracks.{no_cohort, session_bucket, track_of}
-use Rattle.omaha_json_client.specs.Soundness.{IsApp, IsCheck, IsDiff, IsHash, IsOffer, IsOptionalCheck, IsPart, IsSize, IsSound, IsState}
+use Rattle.omaha_json.specs.Soundness.{IsApp, IsCheck, IsDiff, IsHash, IsOffer, IsOptionalCheck, IsPart, IsSize, IsSound, IsState}
 use Rattle.omaha_json.specs.declared.request.AppAsk.{AppAsk}
 use Rattle.omaha_json.specs.declared.request.Check.{Check}
 use Rattle.omaha_json.specs.declared.request.Request.{Request}

@@ -91,7 +91,7 @@ pub fn served_walks<L: Link>(link: &L)
     ensures least { ServedWalksAreLeast (L.received link.now) (L.ended link.now) }
 {
     let _link = link;
-    omaha_json_client::laws::replies_are_read_back();
+    omaha_json::client::laws::replies_are_read_back();
     crate::laws::replies();
     crate::laws::walk();
     catalogue::histories::validity();

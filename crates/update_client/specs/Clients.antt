@@ -12,8 +12,8 @@ use Rattle.omaha_json.specs.declared.reply.CheckReply.{CheckReply}
 use Rattle.omaha_json.specs.declared.reply.CheckReply.TheVariants as check
 use Rattle.omaha_json.specs.declared.reply.Offer.{Offer}
 use Rattle.omaha_json.specs.declared.reply.Part.{Part}
-use Rattle.omaha_json_client.specs.declared.fault.ReplyFault.{ReplyFault}
-use Rattle.omaha_json_client.specs.ReplyReading.{reply_of_bytes}
+use Rattle.omaha_json.specs.declared.client.fault.ReplyFault.{ReplyFault}
+use Rattle.omaha_json.specs.ReplyReading.{reply_of_bytes}
 use Rattle.update_client.specs.Installed.{Installed}
 use Rattle.update_client.specs.declared.fault.Fault.{Fault}
 use Rattle.update_client.specs.declared.fault.Fault.TheVariants as fault

@@ -3,7 +3,7 @@ use Rattle.std.specs.Prelude.{◌≡◌, ◌+◌, ◌<◌, ◌≤◌, ◌⊎◌,
 use Rattle.values.specs.declared.read_error.ReadError.{ReadError}
 use Rattle.values.specs.declared.read_error.ReadError.TheVariants as errors
 use Rattle.omaha_json.specs.RequestReading.{request_of_bytes}
-use Rattle.omaha_json_client.specs.RequestWriting.{request_bytes}
+use Rattle.omaha_json.specs.RequestWriting.{request_bytes}
 use Rattle.update_client.specs.Installed.{Installed}
 use Rattle.update_client.specs.declared.fault.Fault.{Fault}
 use Rattle.update_client.specs.declared.fault.Fault.TheVariants as fault

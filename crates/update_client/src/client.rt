@@ -1,7 +1,7 @@
 //! What a client is, and what it asks.
 
 ghost use Rattle.std.specs.Prelude.{◌≡◌, [], IfOk};
-ghost use Rattle.omaha_json_client.specs.RequestWriting.{IsAppid};
+ghost use Rattle.omaha_json.specs.RequestWriting.{IsAppid};
 ghost use Rattle.update_client.specs.Clients.{ask_of, request_of, client_after};
 
 use crate::hearing::Accepted;
@@ -26,7 +26,7 @@ pub struct Client {
 impl Model for Client {
     ghost use Rattle.std.specs.Prelude.{[]};
     ghost use Rattle.std.specs.Option.{option_map_or};
-    ghost use Rattle.omaha_json_client.specs.RequestWriting.{IsAppid};
+    ghost use Rattle.omaha_json.specs.RequestWriting.{IsAppid};
     ghost use Rattle.update_client.specs.Installed.{Installed};
 
     ghost Value = { Installed };

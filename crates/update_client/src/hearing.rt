@@ -5,8 +5,7 @@ ghost use Rattle.values.specs.Reading.{Reads};
 ghost use Rattle.update_client.specs.Clients.{only_known, news_of, heard, part_of};
 
 use crate::fault::Fault;
-use omaha_json::{AppReply, AppState, CheckReply, KnownApp, Offer, Part, Reply};
-use omaha_json_client::read_reply;
+use omaha_json::{AppReply, AppState, CheckReply, KnownApp, Offer, Part, Reply, read_reply};
 use std::alloc::Global;
 use values::{ReadError, Text};
 

@@ -13,8 +13,7 @@ use crate::hearing::{Accepted, hear, offered_part};
 use crate::installer::{Installer, Step};
 use crate::installing::install;
 use crate::link::Link;
-use omaha_json::Offer;
-use omaha_json_client::write_request;
+use omaha_json::{Offer, write_request};
 use std::alloc::{AllocError, Global};
 use values::{ReadError, Text};
 

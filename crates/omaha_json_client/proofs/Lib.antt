@@ -1,5 +1,0 @@
-mod PlainReplies
-mod ReadBack
-mod ReplyLemmas
-mod RequestLemmas
-mod Returns

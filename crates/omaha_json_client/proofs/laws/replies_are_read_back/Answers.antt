@@ -1,5 +1,0 @@
-use Rattle.omaha_json_client.proofs.Returns.{text_back}
-use Rattle.omaha_json_client.proofs.laws.replies_are_read_back.Goals as goal
-
-pub returns : goal.returns
-returns c = text_back

@@ -1,5 +1,0 @@
-use Rattle.omaha_json_client.proofs.ReplyLemmas.{only_item-none}
-use Rattle.omaha_json_client.proofs.reply_reader.only_item.Goals as goal
-
-pub returns-else-items-eq1 : goal.returns-else-items-eq1
-returns-else-items-eq1 c = only_item-none c.args.items.now c.if-items-eq1.false

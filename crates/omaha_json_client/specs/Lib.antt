@@ -1,4 +1,0 @@
-pub mod Faults
-pub mod ReplyReading
-pub mod RequestWriting
-pub mod Soundness
