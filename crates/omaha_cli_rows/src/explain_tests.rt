@@ -6,7 +6,7 @@ use mirror_ledger::RaiseError;
 use omaha_cli::Failure;
 use omaha_json::RequestFault;
 use package_files::DescribeError;
-use price_certificates::Fault as CertificateFault;
+use price_cert::Fault as CertificateFault;
 use profile_toml::ProfileFault;
 use std::alloc::{AllocError, Global};
 use update_client::Fault as WalkFault;

@@ -12,7 +12,7 @@ use Rattle.reviews.specs.declared.review.TrackReview.{TrackReview}
 use Rattle.services.specs.declared.service.Service.{Service}
 use Rattle.reports.specs.Certificates.{Certifies, Verifies}
 use Rattle.reports.specs.Summaries.{summary_of}
-use Rattle.price_certificates.specs.declared.fault.Fault.{Fault}
+use Rattle.price_cert.specs.declared.certificates.fault.Fault.{Fault}
 use Rattle.values.specs.declared.read_error.ReadError.{ReadError}
 use Rattle.omaha_commands.specs.Applying.{Applies}
 use Rattle.omaha_commands.specs.Profiles.{Files, IsServed, IsUnreadable, max_profile}

@@ -5,7 +5,7 @@ use crate::history_fault::HistoryFault;
 use catalogue::Refused;
 use omaha_json::RequestFault;
 use package_files::{DescribeError, Lack, Lacking};
-use price_certificates::Fault as CertificateFault;
+use price_cert::Fault as CertificateFault;
 use profile_toml::ProfileFault;
 use std::alloc::AllocError;
 use std::error::Error;

@@ -14,7 +14,7 @@ use catalogue::{App, Catalogue, Version};
 use editions::Edition;
 use omaha_arguments::Graph;
 use pictures::{Picture, View, picture_of, write_dot, write_svg};
-use price_certificates::Fault;
+use price_cert::Fault;
 use reviews::{TrackReview, review_catalogue};
 use std::alloc::{AllocError, Global};
 use std::thread::Threads;

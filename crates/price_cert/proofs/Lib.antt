@@ -1,11 +1,24 @@
+mod BackLemmas
 mod BestLemmas
 mod BetterLemmas
+mod CutLemmas
+mod EntryLemmas
 mod InductionLemmas
 mod LeastLemmas
+mod LengthLemmas
+mod NumberLemmas
 mod OpeningLemmas
 mod PairLemmas
 pub mod PassLemmas
+mod ReadingLemmas
 mod RuleLemmas
 mod SmallLemmas
+mod SpelledLemmas
+mod StatedLemmas
 mod StepLemmas
+mod TrackLemmas
 mod UniqueLemmas
+mod VisibleLemmas
+mod WritingLemmas
+mod WrittenLemmas
+mod WrittenTrackLemmas

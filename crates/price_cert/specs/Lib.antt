@@ -1,7 +1,14 @@
 pub mod Best
+pub mod CertificateLaws
 pub mod Chains
 pub mod Examples
+pub mod FaultStrings
+pub mod Forms
+pub mod Headings
+pub mod Keys
 pub mod Laws
+pub mod Reading
 pub mod Rows
 pub mod Rules
+pub mod Strings
 pub mod Tables

@@ -18,6 +18,7 @@
 #![tactic(auto)]
 
 mod best;
+pub mod certificates;
 mod certified;
 mod kept;
 pub mod laws;
@@ -27,6 +28,7 @@ mod row;
 mod rules;
 mod windows;
 
+pub use crate::certificates::{Fault, read_key, read_prices, write_prices};
 pub use crate::certified::{Certified, check, into_certified};
 pub use crate::parts::{check_pair, check_row};
 pub use crate::passing::passes;

@@ -9,7 +9,7 @@ use catalogue::Catalogue;
 use cohorts::Lane;
 use fixtures::{find_wrong, keep, push_wrong};
 use payload_graph::{Graph, TrackKey};
-use price_certificates::{Fault, read_key, read_prices, write_prices};
+use price_cert::{Fault, read_key, read_prices, write_prices};
 use std::alloc::{AllocError, Global};
 use values::ReadError;
 

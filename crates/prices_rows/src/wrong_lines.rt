@@ -3,7 +3,7 @@
 use crate::asks::{replies, wrong_row};
 use crate::certificates::STABLE;
 use fixtures::{DEMO, TIED};
-use price_certificates::Fault;
+use price_cert::Fault;
 use std::alloc::Global;
 
 // Another line at its number, counted from 1, and what that is.

@@ -12,8 +12,7 @@ use catalogue::Catalogue;
 use cohorts::TrackNames;
 use editions::Edition;
 use payload_graph::TrackKey;
-use price_cert::Certified;
-use price_certificates::{Fault, write_prices};
+use price_cert::{Certified, Fault, write_prices};
 use std::alloc::{AllocError, Global};
 use values::ReadError;
 

@@ -1,5 +1,0 @@
-use Rattle.price_certificates.proofs.BackLemmas.{read_body-back}
-use Rattle.price_certificates.proofs.laws.read_is_written.Goals as goal
-
-pub returns : goal.returns
-returns c = read_body-back
