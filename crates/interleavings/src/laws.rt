@@ -41,7 +41,7 @@ pub fn every_interleaving()
     catalogue::histories::growth();
     catalogue::histories::prefixes();
     catalogue::histories::validity();
-    quotes::laws::rows();
+    price_cert::quotes::laws::rows();
     theorems::laws::graphs();
 }
 
@@ -60,7 +60,7 @@ pub fn publishing()
     catalogue::histories::growth();
     catalogue::histories::prefixes();
     catalogue::histories::validity();
-    quotes::laws::rows();
+    price_cert::quotes::laws::rows();
     theorems::laws::graphs();
 }
 
@@ -106,7 +106,7 @@ pub fn plans()
     ensures { PlansAreByPrices }
 {
     catalogue::histories::validity();
-    quotes::laws::rows();
+    price_cert::quotes::laws::rows();
     par_tables::laws::tracks();
     theorems::laws::graphs();
     theorems::laws::plans();
@@ -174,7 +174,7 @@ pub fn worker_calls()
     ensures { WorkerCallsAreEvents }
 {
     catalogue::histories::validity();
-    quotes::laws::rows();
+    price_cert::quotes::laws::rows();
     theorems::laws::graphs();
     theorems::laws::plans();
     crate::laws::certified();
@@ -187,7 +187,7 @@ pub fn lone_calls()
     ensures { LoneCallsAreForRoom }
 {
     catalogue::histories::validity();
-    quotes::laws::rows();
+    price_cert::quotes::laws::rows();
     theorems::laws::graphs();
     theorems::laws::plans();
     crate::laws::certified();

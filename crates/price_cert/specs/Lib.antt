@@ -1,4 +1,5 @@
 pub mod Best
+pub mod ByRows
 pub mod CertificateLaws
 pub mod Chains
 pub mod Examples
@@ -7,8 +8,11 @@ pub mod Forms
 pub mod Headings
 pub mod Keys
 pub mod Laws
+pub mod Outside
+pub mod Quotes
 pub mod Reading
 pub mod Rows
 pub mod Rules
 pub mod Strings
+pub mod Sums
 pub mod Tables

@@ -15,7 +15,7 @@ use fixtures::{
 };
 use par_tables::{TrackTables, tables};
 use payload_graph::{Differentials, Graph, Payload, Place, TrackKey};
-use quotes::{Quote, quote_from};
+use price_cert::{Quote, quote_from};
 use solver::solve;
 use std::alloc::{AllocError, Global};
 

@@ -6,8 +6,8 @@ use Rattle.std.specs.Option.{option_map_or}
 use Rattle.serde_json.specs.Data.{Data, boolean, member, no_members, null, number, object, string, unsigned}
 use Rattle.serde_json.specs.Written.{compact_text}
 use Rattle.catalogue.specs.declared.content.App.{App}
-use Rattle.quotes.specs.declared.quote.Quote.{Quote}
-use Rattle.quotes.specs.declared.quote.Quote.TheVariants as quote
+use Rattle.price_cert.specs.declared.quotes.quote.Quote.{Quote}
+use Rattle.price_cert.specs.declared.quotes.quote.Quote.TheVariants as quote
 use Rattle.reviews.specs.Lines.{cohort_name, lane_word, reason_string, spelled_at}
 use Rattle.reviews.specs.ReviewLines.{bytes_from, clients_on, is_stuck, release_total, steps_from, stuck_of, stuck_total}
 use Rattle.reviews.specs.declared.cause.Reason.{Reason}

@@ -14,7 +14,7 @@ use crate::review::TrackReview;
 use crate::review_lines::{bytes_from, clients_on, steps_from};
 use crate::stuck::{StuckRelease, count_stuck, release_total, stuck_of, stuck_total};
 use catalogue::{App, Catalogue};
-use quotes::Quote;
+use price_cert::Quote;
 use serde_json::{Value, json};
 use std::alloc::{AllocError, Global};
 

@@ -5,7 +5,7 @@ ghost use Rattle.reviews.specs.Reviews.{outcome_by};
 
 use crate::cause::Reason;
 use payload_graph::Payload;
-use quotes::Quote;
+use price_cert::Quote;
 
 /// Where the clients of a track at a release are.
 #[derive(Clone, Copy, Debug, PartialEq, Eq)]

@@ -11,7 +11,7 @@ use crate::review::TrackReview;
 use crate::stuck::{StuckRelease, count_stuck, first_of, stuck_of, stuck_total, totals_string};
 use catalogue::{App, Catalogue};
 use payload_graph::TrackKey;
-use quotes::Quote;
+use price_cert::Quote;
 use std::alloc::{AllocError, Global};
 
 /// The clients of a track.

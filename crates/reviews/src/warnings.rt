@@ -8,7 +8,7 @@ use crate::line::{cohort_name, find_app, spelled_at};
 use crate::outcome::Outcome;
 use crate::review::TrackReview;
 use catalogue::{App, Catalogue};
-use quotes::Quote;
+use price_cert::Quote;
 use std::alloc::{AllocError, Global};
 
 fn has_next(outcome: &Outcome) -> bool

@@ -1,4 +1,0 @@
-pub mod ByRows
-pub mod Outside
-pub mod Quotes
-pub mod Sums
