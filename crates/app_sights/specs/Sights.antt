@@ -4,9 +4,9 @@ use Rattle.std.specs.List.{enumerate_from, list_any}
 use Rattle.catalogue.specs.declared.content.App.{App}
 use Rattle.reviews.specs.Reviews.{AreReviews}
 use Rattle.reviews.specs.declared.review.TrackReview.{TrackReview}
-use Rattle.pictures.specs.Scenes.{picture_of}
-use Rattle.pictures.specs.Svg.{svg_string}
-use Rattle.pictures.specs.declared.view.View.{View}
+use Rattle.reviews.specs.Scenes.{picture_of}
+use Rattle.reviews.specs.Svg.{svg_string}
+use Rattle.reviews.specs.declared.pictures.view.View.{View}
 use Rattle.operator_pages.specs.declared.sights.AppSight.{AppSight}
 use Rattle.app_sights.specs.Clients.{list_of, stuck_in}
 

@@ -10,9 +10,8 @@ use crate::limits::{MAX_DRAWN, is_small};
 use crate::stuck::stuck_list;
 use catalogue::{App, Catalogue};
 use operator_pages::AppSight;
-use pictures::{View, picture_of, write_svg};
 use price_cert::Certified;
-use reviews::{TrackReview, review_catalogue};
+use reviews::{TrackReview, View, picture_of, review_catalogue, write_svg};
 use std::alloc::{AllocError, Global};
 use values::Text;
 

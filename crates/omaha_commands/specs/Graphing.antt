@@ -7,11 +7,11 @@ use Rattle.editions.specs.Editions.{content_of}
 use Rattle.price_cert.specs.declared.certificates.fault.Fault.TheVariants as fault
 use Rattle.reviews.specs.Reviews.{AreReviews}
 use Rattle.reviews.specs.declared.review.TrackReview.{TrackReview}
-use Rattle.pictures.specs.Dot.{dot_string}
-use Rattle.pictures.specs.Scenes.{picture_of}
-use Rattle.pictures.specs.Svg.{svg_string}
-use Rattle.pictures.specs.declared.picture.Picture.{Picture}
-use Rattle.pictures.specs.declared.view.View.{View}
+use Rattle.reviews.specs.Dot.{dot_string}
+use Rattle.reviews.specs.Scenes.{picture_of}
+use Rattle.reviews.specs.Svg.{svg_string}
+use Rattle.reviews.specs.declared.pictures.picture.Picture.{Picture}
+use Rattle.reviews.specs.declared.pictures.view.View.{View}
 use Rattle.services.specs.declared.service.Service.{Service}
 use Rattle.omaha_commands.specs.Profiles.{Files, IsServed}
 use Rattle.omaha_commands.specs.Reports.{Prints}

@@ -3,7 +3,7 @@
 ghost use Rattle.std.specs.Prelude.{◌≡◌, ◌<◌, IfErr, IfOk, IfSome, Ok, Err, length, option_map, true};
 ghost use Rattle.catalogue.specs.Validity.{IsValidApp};
 ghost use Rattle.editions.specs.Editions.{content_of};
-ghost use Rattle.pictures.specs.Scenes.{picture_of};
+ghost use Rattle.reviews.specs.Scenes.{picture_of};
 ghost use Rattle.omaha_commands.specs.Graphing.{Draws, IsDrawn, IsGraph, PrintsGraph, cohort_in, drawn_string, release_in, release_named, subject_in, view_in};
 ghost use Rattle.streams.specs.Streams.{Known};
 
@@ -13,9 +13,8 @@ use crate::profile::open_profile;
 use catalogue::{App, Catalogue, Version};
 use editions::Edition;
 use omaha_arguments::Graph;
-use pictures::{Picture, View, picture_of, write_dot, write_svg};
 use price_cert::Fault;
-use reviews::{TrackReview, review_catalogue};
+use reviews::{Picture, TrackReview, View, picture_of, review_catalogue, write_dot, write_svg};
 use std::alloc::{AllocError, Global};
 use std::thread::Threads;
 use streams::{Disk, WriteWhole};

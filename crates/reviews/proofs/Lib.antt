@@ -6,6 +6,7 @@ mod LargestLemmas
 mod LiftLemmas
 mod ListLemmas
 mod OpenLemmas
+mod PictureChainLemmas
 mod PinLemmas
 mod ReasonLemmas
 mod ReviewLemmas

@@ -2,6 +2,8 @@ pub mod ChangeLines
 pub mod ChangeObjects
 pub mod Changes
 pub mod Copies
+pub mod Dot
+pub mod Labels
 pub mod Largest
 pub mod Lifts
 pub mod Lines
@@ -10,6 +12,8 @@ pub mod Reasons
 pub mod ReviewLines
 pub mod Reviews
 pub mod Routes
+pub mod Scenes
 pub mod Steps
+pub mod Svg
 pub mod Tracks
 pub mod Warnings

@@ -1,6 +1,0 @@
-use Rattle.std.proofs.Common.{◌≡◌, ◌++◌, string_bytes, take}
-use Rattle.pictures.specs.Dot.{all_arrows_dot}
-use Rattle.pictures.proofs.dot.push_arrows.Given as goal
-
-abbrev pub invariant-loop-arrow : goal.invariant-loop-arrow
-invariant-loop-arrow l = string_bytes l.text ≡ string_bytes l.initial.text ++ all_arrows_dot l.app (take l.arrow-index l.arrows)

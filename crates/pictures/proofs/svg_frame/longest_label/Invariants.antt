@@ -1,6 +1,0 @@
-use Rattle.std.proofs.Common.{◌≡◌, take}
-use Rattle.pictures.specs.Svg.{longest_label}
-use Rattle.pictures.proofs.svg_frame.longest_label.Given as goal
-
-abbrev pub invariant-loop-node : goal.invariant-loop-node
-invariant-loop-node l = l.longest ≡ longest_label l.app l.goals (take l.node-index l.nodes)

@@ -1,4 +1,0 @@
-pub mod Dot
-pub mod Labels
-pub mod Scenes
-pub mod Svg

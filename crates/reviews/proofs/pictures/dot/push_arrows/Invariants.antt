@@ -1,0 +1,6 @@
+use Rattle.std.proofs.Common.{◌≡◌, ◌++◌, string_bytes, take}
+use Rattle.reviews.specs.Dot.{all_arrows_dot}
+use Rattle.reviews.proofs.pictures.dot.push_arrows.Given as goal
+
+abbrev pub invariant-loop-arrow : goal.invariant-loop-arrow
+invariant-loop-arrow l = string_bytes l.text ≡ string_bytes l.initial.text ++ all_arrows_dot l.app (take l.arrow-index l.arrows)

@@ -1,0 +1,6 @@
+use Rattle.std.proofs.Common.{◌≡◌, ◌++◌, string_bytes, take}
+use Rattle.reviews.specs.Dot.{all_nodes_dot}
+use Rattle.reviews.proofs.pictures.dot.push_nodes.Given as goal
+
+abbrev pub invariant-loop-node : goal.invariant-loop-node
+invariant-loop-node l = string_bytes l.text ≡ string_bytes l.initial.text ++ all_nodes_dot l.app l.goals (take l.node-index l.nodes)
