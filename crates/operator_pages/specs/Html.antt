@@ -1,6 +1,6 @@
 -- Cells and tags of the page: HTML.
 use Rattle.std.specs.Prelude.{ℕ, Bool, if◌then◌else◌, List, [], ◌++◌, codes, decimal, Option, None, Some}
-use Rattle.markup.specs.Escaping.{escaped_string}
+use Rattle.reviews.specs.Escaping.{escaped_string}
 use Rattle.operator_pages.specs.declared.html.Tag.{Tag}
 use Rattle.operator_pages.specs.declared.html.Tag.TheVariants as tag
 use Rattle.catalogue.specs.Versions.{printed}

@@ -1,6 +1,6 @@
 -- The page of the published edition, for people; this project's profile.
 use Rattle.std.specs.Prelude.{ℕ, List, ◌++◌, codes, decimal}
-use Rattle.markup.specs.Escaping.{escaped_string}
+use Rattle.reviews.specs.Escaping.{escaped_string}
 use Rattle.operator_pages.specs.Publishes.{publishes_section}
 use Rattle.operator_pages.specs.Sections.{app_sections, calls_section, mirror_section, reach_note}
 use Rattle.operator_pages.specs.declared.headings.TheConstants.{END, HEAD}

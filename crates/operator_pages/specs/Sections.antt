@@ -1,7 +1,7 @@
 -- The sections of the page; this project's profile.
 use Rattle.std.specs.Prelude.{ℕ, ◌==◌, if◌then◌else◌, List, [], ◌++◌, codes, decimal, flat_map, length, Option, None, Some}
 use Rattle.std.specs.List.{zip}
-use Rattle.markup.specs.Escaping.{escaped_string}
+use Rattle.reviews.specs.Escaping.{escaped_string}
 use Rattle.catalogue.specs.declared.content.App.{App}
 use Rattle.catalogue.specs.declared.content.Cohort.{Cohort}
 use Rattle.catalogue.specs.declared.content.Release.{Release}

@@ -4,7 +4,7 @@ ghost use Rattle.std.specs.Prelude.{◌≡◌, ◌++◌, IfOk, OnOk, string_byte
 ghost use Rattle.operator_pages.specs.Html.{bar, bar_part, bar_whole, cell, name_cell, number_cell, share_cell, share_string, tag_if, tag_word, named_tag, version_or};
 
 use catalogue::Version;
-use markup::push_escaped;
+use reviews::push_escaped;
 use std::alloc::{AllocError, Global};
 use std::fmt::Write;
 

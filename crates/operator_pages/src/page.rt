@@ -8,7 +8,7 @@ use crate::publishes::push_publishes;
 use crate::sections::{push_apps, push_calls, push_mirror_section, push_reach};
 use crate::shown::Shown;
 use crate::style::STYLE;
-use markup::push_escaped;
+use reviews::push_escaped;
 use std::alloc::{AllocError, Global};
 use std::fmt::Write;
 

@@ -10,7 +10,7 @@ use crate::sights::{AppSight, push_sight};
 use crate::spending::{Place, push_mirrors};
 use crate::tables::{push_cohorts, push_releases};
 use catalogue::{App, Cohort, Mirror, Release};
-use markup::push_escaped;
+use reviews::push_escaped;
 use std::alloc::{AllocError, Global};
 use std::fmt::Write;
 

@@ -3,6 +3,7 @@ pub mod ChangeObjects
 pub mod Changes
 pub mod Copies
 pub mod Dot
+pub mod Escaping
 pub mod Labels
 pub mod Largest
 pub mod Lifts

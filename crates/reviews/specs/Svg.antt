@@ -2,7 +2,7 @@
 use Rattle.std.specs.Prelude.{ℕ, ◌+◌, ◌-◌, ◌*◌, ◌/◌, ◌%◌, max, nat_lt, if◌then◌else◌, codes, decimal, List, ◌++◌, flat_map, fold, length}
 use Rattle.catalogue.specs.declared.content.App.{App}
 use Rattle.reviews.specs.Lines.{spelled_at}
-use Rattle.markup.specs.Escaping.{escaped_string}
+use Rattle.reviews.specs.Escaping.{escaped_string}
 use Rattle.reviews.specs.Labels.{arrow_tip, bytes_of, goals_string, kind_word, label_string, node_tip, pen_string, word_if}
 use Rattle.reviews.specs.declared.pictures.arrows.Arrow.{Arrow}
 use Rattle.reviews.specs.declared.pictures.nodes.Goal.{Goal}

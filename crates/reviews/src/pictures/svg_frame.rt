@@ -3,13 +3,13 @@
 ghost use Rattle.std.specs.Prelude.{◌≡◌, ◌^◌, ◌<◌, IfOk, string_bytes};
 ghost use Rattle.reviews.specs.Svg.{frame_of, frame_string, head_string, heads_string, height_of, left_of, legend_string, longer_jump, longer_label, longest_jump, longest_label, style_string, title_string, width_of};
 
+use crate::markup::escaped;
 use crate::pictures::arrows::Arrow;
 use crate::pictures::labels::label_string;
 use crate::pictures::nodes::{Goal, Node};
 use crate::pictures::picture::Picture;
 use crate::pictures::spans::span_of;
 use catalogue::App;
-use markup::escaped;
 use std::alloc::{AllocError, Global};
 
 const STYLE: &str = "<style>

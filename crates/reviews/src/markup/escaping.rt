@@ -1,7 +1,7 @@
 //! Strings within XML and HTML.
 
 ghost use Rattle.std.specs.Prelude.{◌≡◌, ◌++◌, IfOk, OnOk, option_map, string_bytes};
-ghost use Rattle.markup.specs.Escaping.{entity_of, escaped_char, escaped_string, is_unwritable, mark_of};
+ghost use Rattle.reviews.specs.Escaping.{entity_of, escaped_char, escaped_string, is_unwritable, mark_of};
 
 use std::alloc::{AllocError, Global};
 

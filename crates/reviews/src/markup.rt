@@ -4,8 +4,6 @@
 //!
 //! It knows no elements and no attributes.
 
-#![tactic(auto)]
-
 mod escaping;
 
-pub use crate::escaping::{escaped, push_escaped};
+pub use crate::markup::escaping::{escaped, push_escaped};

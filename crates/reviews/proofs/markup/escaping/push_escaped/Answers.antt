@@ -1,8 +1,8 @@
 use Rattle.std.proofs.Common.{◌++◌, flat_map, sym, ap, ◌∙◌, map-id, string_bytes}
 use Rattle.std.proofs.lemmas.Iterator.{YieldsList-from_chars}
 use Rattle.std.proofs.lemmas.Iterator.Consumers.{YieldsList-end}
-use Rattle.markup.specs.Escaping.{escaped_char}
-use Rattle.markup.proofs.escaping.push_escaped.Goals as goal
+use Rattle.reviews.specs.Escaping.{escaped_char}
+use Rattle.reviews.proofs.markup.escaping.push_escaped.Goals as goal
 
 pub returns : goal.returns
 returns c =
