@@ -1,6 +1,6 @@
 -- The pages of an operator's address, and its status; this project's profile.
 use Rattle.std.specs.Prelude.{◌≡◌, ◌+◌, ◌<◌, ◌≤◌, ⊤, ℕ, true, List, bytes_eq, codes, length, slice_index, Option, Result, Ok, Err}
-use Rattle.app_sights.specs.Sights.{AreSights}
+use Rattle.operator_pages.specs.AppSights.{AreSights}
 use Rattle.catalogue.specs.Histories.{History}
 use Rattle.editions.specs.Editions.{content_of}
 use Rattle.http_desks.specs.declared.desk.DeskStatus.{DeskStatus}

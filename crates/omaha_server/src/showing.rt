@@ -1,7 +1,7 @@
 // The pages of the operator's address, and its status.
 
 ghost use Rattle.std.specs.Prelude.{◌≡◌, ◌≤◌, ◌^◌, IfOk, bytes_eq, codes, length, true};
-ghost use Rattle.app_sights.specs.Sights.{AreSights};
+ghost use Rattle.operator_pages.specs.AppSights.{AreSights};
 ghost use Rattle.editions.specs.Editions.{content_of};
 ghost use Rattle.http_desks.specs.Calls.{answer_in};
 ghost use Rattle.http_desks.specs.Pages.{page_in};
@@ -13,13 +13,12 @@ ghost use Rattle.service_desks.specs.States.{State, earlier_in};
 use crate::circumstances::Circumstances;
 use crate::setup::Setup;
 use crate::traffic::{Served, Traffic};
-use app_sights::sights_of;
 use catalogue::Mirror;
 use editions::Edition;
 use http_desks::{Answer, DeskStatus, Off, Page};
 use mirror_ledger::Budgets;
 use operator_pages::{
-    AppSight, Counts, Outcome, Publish, Publishes, Reach, Shown, page_at, status_string,
+    AppSight, Counts, Outcome, Publish, Publishes, Reach, Shown, page_at, sights_of, status_string,
 };
 use publisher::{Prepared, Press};
 use std::alloc::{AllocError, Global};

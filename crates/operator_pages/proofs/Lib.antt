@@ -1,2 +1,3 @@
 mod PublishLemmas
+mod SightLemmas
 mod ZipLemmas

@@ -1,3 +1,5 @@
+pub mod AppSights
+pub mod Clients
 pub mod Counts
 pub mod Families
 pub mod Health

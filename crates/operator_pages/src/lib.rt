@@ -9,6 +9,7 @@
 
 #![tactic(auto)]
 
+mod app_sights;
 mod counts;
 mod families;
 mod headings;
@@ -29,6 +30,7 @@ mod style;
 mod tables;
 mod traffic;
 
+pub use crate::app_sights::sights_of;
 pub use crate::counts::{Counts, Outcome, Reach};
 pub use crate::health::{health_string, status_string};
 pub use crate::metrics::metrics_string;

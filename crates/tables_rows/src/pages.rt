@@ -1,11 +1,12 @@
 // Pages of small catalogues, written by hand.
 
 use crate::counted::totals_of_two;
-use app_sights::sights_of;
 use catalogue::{Catalogue, Mirror};
 use fixtures::{STAGED, catalogue_of_profile, catalogue_of_script, keep, many, mirrors_of_profile};
 use http_desks::{Page, PageKind};
-use operator_pages::{AppSight, Counts, Outcome, Publish, Publishes, Reach, Shown, page_at};
+use operator_pages::{
+    AppSight, Counts, Outcome, Publish, Publishes, Reach, Shown, page_at, sights_of,
+};
 use par_tables::tables;
 use std::alloc::Global;
 

@@ -1,6 +1,0 @@
-use Rattle.std.proofs.Common.{◌≡◌, map, take}
-use Rattle.app_sights.specs.Clients.{said_of}
-use Rattle.app_sights.proofs.stuck.all_said.Given as goal
-
-abbrev pub invariant-loop-one : goal.invariant-loop-one
-invariant-loop-one l = l.said.items ≡ map (said_of l.app) (take l.one-index l.stuck)
