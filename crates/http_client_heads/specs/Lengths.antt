@@ -2,8 +2,8 @@
 -- and no second length, even an equal one, is this project's profile.
 use Rattle.std.specs.Prelude.{ℕ, Bool, ◌^◌, ◌&&◌, ◌==◌, nat_lt, List, [], ◌∷◌, Result, Ok, Err, if◌then◌else◌, codes, ⊤}
 use Rattle.std.specs.Str.Parse.{digits_value}
-use Rattle.http_heads.specs.Fields.{Pair, is_same_word, values_named}
-use Rattle.http_heads.specs.Framing.{is_number}
+use Rattle.http_wire.specs.Fields.{Pair, is_same_word, values_named}
+use Rattle.http_wire.specs.Framing.{is_number}
 use Rattle.http_client_heads.specs.declared.fault.LinkFault.{LinkFault}
 use Rattle.http_client_heads.specs.declared.fault.LinkFault.TheVariants as fault
 use Rattle.http_client_heads.specs.declared.length.BodyLength.{BodyLength}

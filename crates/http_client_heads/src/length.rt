@@ -1,6 +1,6 @@
 ghost use Rattle.std.specs.Prelude.{◌≡◌, ◌∷◌, [], length, map, All, IfErr, MatchOption, codes};
 ghost use Rattle.httparse.specs.Spans.{IsHeaderWithin, header_bytes};
-ghost use Rattle.http_heads.specs.Fields.{is_named, values_named};
+ghost use Rattle.http_wire.specs.Fields.{is_named, values_named};
 ghost use Rattle.http_client_heads.specs.Lengths.{IsHeadFault, body_length, is_chunked, known_length, length_in};
 
 use crate::fault::LinkFault;

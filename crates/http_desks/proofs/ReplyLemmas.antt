@@ -4,10 +4,10 @@ use Rattle.std.proofs.lemmas.Bool.{eqb-true, eq-eqb}
 use Rattle.std.specs.Prelude.{codes}
 use Rattle.std.specs.Option.{option_eq}
 use Rattle.std.specs.Io.KnownBytes.{Appends}
-use Rattle.http_heads.specs.Replies.{head_bytes}
-use Rattle.http_heads.specs.declared.reply.ReplyHead.{ReplyHead}
-use Rattle.http_heads.specs.declared.status.Status.{Status}
-use Rattle.http_heads.specs.declared.status.Status.TheVariants as status
+use Rattle.http_wire.specs.Replies.{head_bytes}
+use Rattle.http_wire.specs.declared.heads.reply.ReplyHead.{ReplyHead}
+use Rattle.http_wire.specs.declared.heads.status.Status.{Status}
+use Rattle.http_wire.specs.declared.heads.status.Status.TheVariants as status
 use Rattle.http_desks.specs.Downloads.{Reads, download, full_blocks, joined_blocks}
 use Rattle.http_wire.specs.Sending.{AppendsPart}
 use Rattle.values.specs.declared.failed.Failed.{Failed}

@@ -4,8 +4,8 @@ use Rattle.http_desks.specs.declared.desk.Off.{Off}
 use Rattle.http_desks.specs.declared.page.Page.{Page}
 use Rattle.http_desks.specs.declared.page.PageKind.{PageKind}
 use Rattle.http_desks.specs.declared.page.PageKind.TheVariants as kind
-use Rattle.http_heads.specs.declared.status.Status.{Status}
-use Rattle.http_heads.specs.declared.status.Status.TheVariants as status
+use Rattle.http_wire.specs.declared.heads.status.Status.{Status}
+use Rattle.http_wire.specs.declared.heads.status.Status.TheVariants as status
 
 -- the status of a page
 abbrev pub page_status : PageKind → Status

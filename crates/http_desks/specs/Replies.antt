@@ -1,11 +1,11 @@
 -- The reply to a whole message; this project's profile.
 use Rattle.std.specs.Prelude.{◌≡◌, ℕ, Bool, true, List, [], ◌∷◌, ◌++◌, length, Option, None, Some, Result, Ok, Err, if◌then◌else◌, codes}
 use Rattle.std.specs.Io.KnownBytes.{Appends}
-use Rattle.http_heads.specs.Replies.{allow_line, last_lines, length_line, status_line, type_line}
-use Rattle.http_heads.specs.declared.reply.Allow.{Allow}
-use Rattle.http_heads.specs.declared.reply.Allow.TheVariants as allow
-use Rattle.http_heads.specs.declared.status.Status.{Status}
-use Rattle.http_heads.specs.declared.status.Status.TheVariants as status
+use Rattle.http_wire.specs.Replies.{allow_line, last_lines, length_line, status_line, type_line}
+use Rattle.http_wire.specs.declared.heads.reply.Allow.{Allow}
+use Rattle.http_wire.specs.declared.heads.reply.Allow.TheVariants as allow
+use Rattle.http_wire.specs.declared.heads.status.Status.{Status}
+use Rattle.http_wire.specs.declared.heads.status.Status.TheVariants as status
 use Rattle.http_desks.specs.Downloads.{Reads, agrees, download, joined_blocks}
 use Rattle.http_wire.specs.Sending.{AppendsPart}
 use Rattle.values.specs.declared.failed.Failed.{Failed}

@@ -1,6 +1,6 @@
 -- What becomes of a whole message; this project's profile.
 use Rattle.std.specs.Prelude.{◌≡◌, ◌≢◌, ◌≤◌, ℕ, Bool, true, false, not, List, [], ◌∷◌, length, Option, None, Some, Result, if◌then◌else◌, bytes_eq, codes}
-use Rattle.http_heads.specs.Targets.{package_in, path_in}
+use Rattle.http_wire.specs.Targets.{package_in, path_in}
 use Rattle.http_desks.specs.Downloads.{IsRead, Reads, ReadsFrom, full_blocks}
 use Rattle.http_desks.specs.declared.desk.DeskStatus.{DeskStatus}
 use Rattle.http_desks.specs.declared.desk.Off.{Off}

@@ -10,8 +10,7 @@ use crate::fetching::{begin_fetch, send_rest};
 use crate::method::Method;
 use crate::package::Packages;
 use crate::showing::{deny, show};
-use http_heads::{Allow, ReplyHead, Status, package_name, path_of};
-use http_wire::{Failed, Sink, send_reply};
+use http_wire::{Allow, Failed, ReplyHead, Sink, Status, package_name, path_of, send_reply};
 use values::Declared;
 
 /// How a reply came out.

@@ -4,7 +4,7 @@ ghost use Rattle.http_desks.specs.Pages.{page_in};
 ghost use Rattle.http_desks.specs.Replies.{status_of};
 
 use crate::page::Page;
-use http_heads::Status;
+use http_wire::Status;
 use values::Declared;
 
 /// The status that a desk gives its reply.

@@ -2,8 +2,7 @@ ghost use Rattle.std.specs.Prelude.{◌≡◌, ◌+◌, is_ok, if◌then◌else�
 ghost use Rattle.http_wire.specs.Sending.{Sends};
 ghost use Rattle.http_desks.specs.Replies.{empty_reply};
 
-use http_heads::{Allow, ReplyHead, Status};
-use http_wire::{Failed, Sink, send_reply};
+use http_wire::{Allow, Failed, ReplyHead, Sink, Status, send_reply};
 
 /// Writes a reply without a body.
 ///

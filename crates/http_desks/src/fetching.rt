@@ -4,8 +4,7 @@ ghost use Rattle.http_desks.specs.Begins.{BeginsFetch, Rests};
 use crate::answering::{Begun, Handled};
 use crate::download::send_package;
 use crate::package::Packages;
-use http_heads::{ReplyHead, Status};
-use http_wire::{Failed, Sink, send_reply};
+use http_wire::{Failed, ReplyHead, Sink, Status, send_reply};
 use values::Declared;
 
 // Sends a package after its head.

@@ -1,7 +1,7 @@
 ghost use Rattle.std.specs.Prelude.{◌≡◌};
 ghost use Rattle.http_desks.specs.Pages.{page_fields, page_status};
 
-use http_heads::Status;
+use http_wire::Status;
 
 /// The type of a page's body, and the status of its reply.
 #[derive(Clone, Copy, Debug, Drop, PartialEq, Eq)]

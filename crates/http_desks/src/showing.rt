@@ -11,8 +11,7 @@ use crate::desk::Desk;
 use crate::empty::send_empty;
 use crate::method::Method;
 use crate::page::Page;
-use http_heads::{Allow, ReplyHead, Status};
-use http_wire::{Failed, Sink, send_reply};
+use http_wire::{Allow, Failed, ReplyHead, Sink, Status, send_reply};
 
 /// Writes a reply without a body, after which the connection may go on.
 pub(crate) fn deny<W: Sink>(

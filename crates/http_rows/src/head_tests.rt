@@ -3,9 +3,10 @@ ghost use Rattle.http_wire.specs.Heads.{IsWholeWithin};
 
 use crate::lines::{columns, expand};
 use crate::rows::wrong_row;
-use http_heads::{Status, framing, package_name, path_of, wants_close};
 use http_memory::Input;
-use http_wire::{Head, MAX_FIELDS, Window, read_head};
+use http_wire::{
+    Head, MAX_FIELDS, Status, Window, framing, package_name, path_of, read_head, wants_close,
+};
 use httparse::spans::{EMPTY_HEADER_SPAN, HeaderSpan, RequestSpans};
 use std::alloc::Global;
 

@@ -1,6 +1,5 @@
-use http_heads::{Allow, ReplyHead, Status};
 use http_memory::Output;
-use http_wire::send_reply;
+use http_wire::{Allow, ReplyHead, Status, send_reply};
 use std::alloc::Global;
 
 const REPLIES: &str = "\

@@ -9,13 +9,13 @@ use Rattle.httparse.specs.Grammar.{RequestHead}
 use Rattle.httparse.specs.Spans.{IsRequestAt, header_bytes, name_and_value, span_bytes}
 use Rattle.httparse.specs.declared.spans.HeaderSpan.{HeaderSpan}
 use Rattle.httparse.specs.declared.spans.RequestSpans.{RequestSpans}
-use Rattle.http_heads.specs.Browsers.{is_from_browser}
-use Rattle.http_heads.specs.Hosts.{is_for_another}
-use Rattle.http_heads.specs.Closing.{closes_after}
-use Rattle.http_heads.specs.Fields.{Pair, is_named, values_named}
-use Rattle.http_heads.specs.Framing.{framing_of, is_number, length_by, length_in}
-use Rattle.http_heads.specs.declared.status.Status.{Status}
-use Rattle.http_heads.specs.declared.status.Status.TheVariants as status
+use Rattle.http_wire.specs.Browsers.{is_from_browser}
+use Rattle.http_wire.specs.Hosts.{is_for_another}
+use Rattle.http_wire.specs.Closing.{closes_after}
+use Rattle.http_wire.specs.Fields.{Pair, is_named, values_named}
+use Rattle.http_wire.specs.Framing.{framing_of, is_number, length_by, length_in}
+use Rattle.http_wire.specs.declared.heads.status.Status.{Status}
+use Rattle.http_wire.specs.declared.heads.status.Status.TheVariants as status
 use Rattle.http_desks.specs.Uses.{method_of}
 use Rattle.http_sessions.specs.Messages.{asks_close, fields_of, message_length, method_in}
 

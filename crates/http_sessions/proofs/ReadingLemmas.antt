@@ -7,7 +7,7 @@ use Rattle.httparse.specs.Spans.{IsRequestAt, span_bytes}
 use Rattle.httparse.specs.declared.spans.HeaderSpan.{HeaderSpan}
 use Rattle.httparse.specs.declared.spans.Span.{Span}
 use Rattle.httparse.specs.declared.spans.RequestSpans.{RequestSpans}
-use Rattle.http_heads.specs.declared.status.Status.{Status}
+use Rattle.http_wire.specs.declared.heads.status.Status.{Status}
 use Rattle.http_wire.specs.Bodies.{BodyFound}
 use Rattle.http_wire.specs.Devices.{Came}
 use Rattle.http_wire.specs.Heads.{IsLongHead}

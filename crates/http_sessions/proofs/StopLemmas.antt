@@ -4,7 +4,7 @@ use Rattle.std.proofs.lemmas.List.{append-nil, append_cancel_left, take_all}
 use Rattle.std.proofs.Math.Seq.{take-append-add}
 use Rattle.httparse.specs.Grammar.{EndsInTarget, HasNoRequest, MayBecomeRequest, NeverHasRequest, RequestHead, print_request}
 use Rattle.httparse.proofs.GrammarLemmas.{request_unique}
-use Rattle.http_heads.specs.declared.status.Status.{Status}
+use Rattle.http_wire.specs.declared.heads.status.Status.{Status}
 use Rattle.http_wire.specs.Heads.{IsLongHead, IsPartOfHead}
 use Rattle.http_desks.specs.Replies.{empty_reply, handled_of, reply_to}
 use Rattle.http_desks.specs.Uses.{Use}

@@ -3,7 +3,7 @@ use Rattle.std.proofs.Common.{◌≡◌, ℕ, ◌+◌, ◌<◌, ◌≤◌, Bool,
 use Rattle.std.proofs.Math.Seq.{take-append_seam}
 use Rattle.std.proofs.lemmas.List.{length-take-le}
 use Rattle.std.specs.Io.KnownBytes.{Appends, Consumes, IsAtEnd}
-use Rattle.http_heads.specs.declared.status.Status.{Status}
+use Rattle.http_wire.specs.declared.heads.status.Status.{Status}
 use Rattle.http_wire.specs.Sending.{AppendsPart}
 use Rattle.values.specs.declared.failed.Failed.{Failed}
 use Rattle.http_desks.specs.declared.answering.Handled.{Handled}

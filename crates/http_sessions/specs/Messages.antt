@@ -3,13 +3,13 @@
 use Rattle.std.specs.Prelude.{◌≡◌, ◌≤◌, ℕ, Bool, ◌||◌, false, List, ◌++◌, length, map, Some, Result, Ok, Err, if◌then◌else◌, nat_le}
 use Rattle.httparse.specs.Grammar.{IsRequestHead, ReadsRequest, RequestHead, print_request}
 use Rattle.httparse.specs.Spans.{name_and_value}
-use Rattle.http_heads.specs.Browsers.{is_from_browser}
-use Rattle.http_heads.specs.Closing.{closes_after}
-use Rattle.http_heads.specs.Fields.{Pair}
-use Rattle.http_heads.specs.Framing.{framing_of}
-use Rattle.http_heads.specs.Hosts.{is_for_another}
-use Rattle.http_heads.specs.declared.status.Status.{Status}
-use Rattle.http_heads.specs.declared.status.Status.TheVariants as status
+use Rattle.http_wire.specs.Browsers.{is_from_browser}
+use Rattle.http_wire.specs.Closing.{closes_after}
+use Rattle.http_wire.specs.Fields.{Pair}
+use Rattle.http_wire.specs.Framing.{framing_of}
+use Rattle.http_wire.specs.Hosts.{is_for_another}
+use Rattle.http_wire.specs.declared.heads.status.Status.{Status}
+use Rattle.http_wire.specs.declared.heads.status.Status.TheVariants as status
 use Rattle.http_desks.specs.declared.answering.Handled.TheVariants.{Answered}
 use Rattle.http_desks.specs.declared.method.Method.{Method}
 use Rattle.http_desks.specs.Calls.{Call}

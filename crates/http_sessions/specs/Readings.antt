@@ -2,8 +2,8 @@
 use Rattle.std.specs.Prelude.{◌≡◌, ◌⊎◌, ◌≤◌, ◌<◌, ℕ, List, ◌++◌, length, take, Option, Result, Ok, Err}
 use Rattle.std.specs.Io.KnownBytes.{Consumes, IsAtEnd}
 use Rattle.httparse.specs.Grammar.{IsRequestHead, NeverHasRequest, RequestHead, print_request}
-use Rattle.http_heads.specs.declared.status.Status.{Status}
-use Rattle.http_heads.specs.declared.status.Status.TheVariants as status
+use Rattle.http_wire.specs.declared.heads.status.Status.{Status}
+use Rattle.http_wire.specs.declared.heads.status.Status.TheVariants as status
 use Rattle.http_wire.specs.Heads.{IsLongHead, IsPartOfHead}
 use Rattle.values.specs.declared.failed.Failed.{Failed}
 use Rattle.http_sessions.specs.declared.foreseeing.Foreseen.{Foreseen}

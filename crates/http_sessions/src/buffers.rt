@@ -1,8 +1,7 @@
 ghost use Rattle.std.specs.Prelude.{◌≡◌, length, vec_len};
 
 use http_desks::BLOCK;
-use http_heads::MAX_BODY;
-use http_wire::{MAX_FIELDS, MAX_HEAD};
+use http_wire::{MAX_BODY, MAX_FIELDS, MAX_HEAD};
 use httparse::spans::{EMPTY_HEADER_SPAN, HeaderSpan};
 use std::alloc::{AllocError, Global};
 

@@ -6,8 +6,7 @@ ghost use Rattle.http_sessions.specs.Readings.{IsForeseen};
 use crate::buffers::Buffers;
 use crate::message::examine;
 use http_desks::Request;
-use http_heads::Status;
-use http_wire::MAX_HEAD;
+use http_wire::{MAX_HEAD, Status};
 use httparse::spans::{HeaderSpan, parse_request};
 use httparse::{Error, Status as Parsed};
 

@@ -7,8 +7,10 @@ ghost use Rattle.http_sessions.specs.Stops.{end_with};
 
 use crate::ends::End;
 use http_desks::Method;
-use http_heads::{Status, framing, is_for_another, is_from_browser, wants_close};
-use http_wire::{Failed, Head, Source, Window, read_body, read_head};
+use http_wire::{
+    Failed, Head, Source, Status, Window, framing, is_for_another, is_from_browser, read_body,
+    read_head, wants_close,
+};
 use httparse::spans::{HeaderSpan, RequestSpans};
 
 // The most fields that a head may have.

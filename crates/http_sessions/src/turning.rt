@@ -7,8 +7,7 @@ use crate::ends::{End, Fault, Served};
 use crate::message::{Message, Plan, read_message};
 use crate::session::{MAX_MESSAGES, Session, Turn};
 use http_desks::{Clock, Desk, Handled, Packages, Request, answer, send_empty};
-use http_heads::Status;
-use http_wire::{Sink, Source, Window};
+use http_wire::{Sink, Source, Status, Window};
 use std::alloc::{AllocError, Global};
 
 impl Session {

@@ -1,6 +1,6 @@
 -- The reply to bytes that no message begins with, as a part of a session.
 use Rattle.std.proofs.Common.{◌≡◌, ◌+◌, ◌<◌, ◌==◌, ℕ, Bool, true, false, List, [], append-nil, length, Option, None, Some, inl, inr, refl, sym, subst, ap, arith}
-use Rattle.http_heads.specs.declared.status.Status.{Status}
+use Rattle.http_wire.specs.declared.heads.status.Status.{Status}
 use Rattle.http_desks.specs.declared.method.Method.{Method}
 use Rattle.http_desks.specs.Calls.{Call, Leads}
 use Rattle.http_desks.specs.Replies.{empty_reply}

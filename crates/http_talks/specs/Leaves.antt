@@ -1,6 +1,6 @@
 -- What a reply leaves of a connection; this project's profile.
 use Rattle.std.specs.Prelude.{◌≡◌, ⊤, ◌+◌, ◌==◌, ℕ, Bool, true, false, List, [], ◌++◌, None, Some}
-use Rattle.http_heads.specs.declared.status.Status.{Status}
+use Rattle.http_wire.specs.declared.heads.status.Status.{Status}
 use Rattle.http_wire.specs.Sending.{AppendsPart}
 use Rattle.http_desks.specs.declared.method.Method.{Method}
 use Rattle.http_desks.specs.Begins.{IsAtOnce}

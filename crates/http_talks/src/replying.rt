@@ -11,8 +11,8 @@ use crate::talk::Sending;
 use http_desks::{
     Begun, Clock, Declared, Desk, Handled, Packages, Request, Transfer, begin, send_empty,
 };
-use http_heads::Status;
 use http_sessions::{Buffers, Found, MAX_MESSAGES};
+use http_wire::Status;
 use std::alloc::{AllocError, Global};
 use streams::Trace;
 

@@ -1,4 +1,8 @@
 mod BytesLemmas
-pub mod KnownLemmas
-mod ReplyLemmas
+mod ClosingLemmas
+mod FieldLemmas
 pub mod HeadLemmas
+pub mod KnownLemmas
+mod LengthLemmas
+mod ReplyLemmas
+mod TargetLemmas

@@ -2,8 +2,8 @@
 use Rattle.std.proofs.Common.{◌≡◌, ℕ, List, [], ◌++◌, ap, ◌∙◌, append_assoc}
 use Rattle.std.specs.Prelude.{codes, decimal}
 use Rattle.std.proofs.lemmas.List.{append-nil}
-use Rattle.http_heads.specs.Replies.{status_line, type_line, allow_line, length_line, last_lines, head_bytes}
-use Rattle.http_heads.specs.declared.reply.ReplyHead.{ReplyHead}
+use Rattle.http_wire.specs.Replies.{status_line, type_line, allow_line, length_line, last_lines, head_bytes}
+use Rattle.http_wire.specs.declared.heads.reply.ReplyHead.{ReplyHead}
 
 in_order :
     (line before text after allow size last body : List ℕ) →

@@ -1,4 +1,12 @@
-pub mod Devices
-pub mod Heads
 pub mod Bodies
+pub mod Browsers
+pub mod Closing
+pub mod Devices
+pub mod Fields
+pub mod Framing
+pub mod Heads
+pub mod Hosts
+pub mod Lengths
+pub mod Replies
 pub mod Sending
+pub mod Targets

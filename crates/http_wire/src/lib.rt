@@ -17,6 +17,7 @@
 mod body;
 mod device;
 mod head;
+mod heads;
 mod reply;
 mod sending;
 mod sink;
@@ -27,6 +28,10 @@ mod window;
 pub use crate::body::read_body;
 pub use crate::device::{Sink, Source};
 pub use crate::head::{Head, MAX_FIELDS, read_head};
+pub use crate::heads::{
+    Allow, MAX_BODY, ReplyHead, Status, allow_field, framing, is_for_another, is_from_browser,
+    last_field, package_name, path_of, wants_close,
+};
 pub use crate::reply::send_reply;
 pub use crate::sending::send;
 pub use crate::sink::WatchedSink;

@@ -1,10 +1,10 @@
 ghost use Rattle.std.specs.Prelude.{◌≡◌, ◌+◌, ◌++◌, List, [], ◌∷◌, ℕ, codes, is_ok, if◌then◌else◌};
-ghost use Rattle.http_heads.specs.Replies.{head_bytes, type_line};
+ghost use Rattle.http_wire.specs.Replies.{head_bytes, type_line};
 ghost use Rattle.http_wire.specs.Sending.{Sends, joined};
 
 use crate::device::Sink;
+use crate::heads::{ReplyHead, allow_field, last_field};
 use crate::sending::{join, send, send_all};
-use http_heads::{ReplyHead, allow_field, last_field};
 use itoa::Buffer;
 use values::Failed;
 
@@ -68,7 +68,7 @@ fn send_parts<'a, W: Sink>(
 }
 
 // The parts of the field that names a type, if there is one.
-#[tactic(auto, unfolding(http_heads::specs::Replies::type_line))]
+#[tactic(auto, unfolding(crate::specs::Replies::type_line))]
 fn type_fields<'a>(kind: &'a str) -> (&'a str, &'a str, &'a str)
     ensures { result.0.now ++ (result.1.now ++ result.2.now) ≡ type_line kind.now }
 {

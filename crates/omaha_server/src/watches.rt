@@ -3,8 +3,8 @@
 use crate::notes::note;
 use crate::setup::Setup;
 use access_logs::{CutReply, LastReply};
-use http_heads::{package_name, path_of};
 use http_ports::{Port, WatchEach};
+use http_wire::{package_name, path_of};
 use package_files::Mismatch;
 use std::alloc::AllocError;
 use std::marker::PhantomData;

@@ -1,7 +1,7 @@
 -- The statuses that a server replies with; this project's profile.
 use Rattle.std.specs.Prelude.{ℕ, ◌==◌, Option, position}
-use Rattle.http_heads.specs.declared.status.Status.{Status}
-use Rattle.http_heads.specs.declared.status.Status.TheVariants as status
+use Rattle.http_wire.specs.declared.heads.status.Status.{Status}
+use Rattle.http_wire.specs.declared.heads.status.Status.TheVariants as status
 use Rattle.tallies.specs.declared.codes.TheConstants.{CODES}
 
 -- rule: Counted statuses

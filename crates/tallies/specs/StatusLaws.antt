@@ -1,7 +1,7 @@
 -- What holds of the statuses of replies, however they are written; this project's profile.
 use Rattle.std.specs.Prelude.{◌≡◌, ℕ, List, ◌++◌, IsSome}
-use Rattle.http_heads.specs.Replies.{status_line}
-use Rattle.http_heads.specs.declared.status.Status.{Status}
+use Rattle.http_wire.specs.Replies.{status_line}
+use Rattle.http_wire.specs.declared.heads.status.Status.{Status}
 use Rattle.tallies.specs.Codes.{code_of, position_of}
 use Rattle.tallies.specs.Statuses.{nothing, written}
 use Rattle.tallies.specs.declared.sight.StatusSight.{StatusSight}

@@ -1,7 +1,7 @@
 use Rattle.std.proofs.Common.{◌≡◌, IsSome, refl}
-use Rattle.http_heads.specs.Replies.{status_line}
-use Rattle.http_heads.specs.declared.status.Status.{Status}
-use Rattle.http_heads.specs.declared.status.Status.TheVariants as status
+use Rattle.http_wire.specs.Replies.{status_line}
+use Rattle.http_wire.specs.declared.heads.status.Status.{Status}
+use Rattle.http_wire.specs.declared.heads.status.Status.TheVariants as status
 use Rattle.tallies.specs.Codes.{code_of, position_of}
 use Rattle.tallies.specs.Statuses.{nothing, written}
 use Rattle.tallies.proofs.laws.every_status.Goals as goal

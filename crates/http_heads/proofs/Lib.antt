@@ -1,4 +1,0 @@
-mod ClosingLemmas
-mod FieldLemmas
-mod LengthLemmas
-mod TargetLemmas

@@ -1,8 +1,0 @@
-use Rattle.std.proofs.Common.{◌≡◌, false, map, take}
-use Rattle.std.specs.List.{list_any}
-use Rattle.httparse.specs.Spans.{header_bytes}
-use Rattle.http_heads.specs.Closing.{closes}
-use Rattle.http_heads.proofs.closing.wants_close.Given as goal
-
-abbrev pub invariant-loop-field : goal.invariant-loop-field
-invariant-loop-field l = list_any closes (map (header_bytes l.buf) (take l.field-index l.fields)) ≡ false

@@ -1,5 +1,0 @@
-use Rattle.std.proofs.Common.{rules}
-use Rattle.http_heads.proofs.field.is_same_word.Goals as goal
-
-pub returns : goal.returns
-returns c = search rules

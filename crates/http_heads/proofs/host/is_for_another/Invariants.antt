@@ -1,8 +1,0 @@
-use Rattle.std.proofs.Common.{◌≡◌, false, map, take}
-use Rattle.std.specs.List.{list_any}
-use Rattle.httparse.specs.Spans.{header_bytes}
-use Rattle.http_heads.specs.Hosts.{is_foreign}
-use Rattle.http_heads.proofs.host.is_for_another.Given as goal
-
-abbrev pub invariant-loop-field : goal.invariant-loop-field
-invariant-loop-field l = list_any is_foreign (map (header_bytes l.buf) (take l.field-index l.fields)) ≡ false

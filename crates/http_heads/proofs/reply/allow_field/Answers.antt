@@ -1,7 +1,0 @@
-use Rattle.std.proofs.Common.{rules}
-use Rattle.http_heads.specs.Replies.{allow_line}
-use Rattle.http_heads.proofs.reply.allow_field.Goals as goal
-
-pub returns-in-Some-Get : goal.returns-in-Some-Get
-unfolding allow_line
-returns-in-Some-Get c = search rules

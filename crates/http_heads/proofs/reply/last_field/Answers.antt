@@ -1,7 +1,0 @@
-use Rattle.std.proofs.Common.{rules}
-use Rattle.http_heads.specs.Replies.{last_lines}
-use Rattle.http_heads.proofs.reply.last_field.Goals as goal
-
-pub returns-then-closes : goal.returns-then-closes
-unfolding last_lines
-returns-then-closes c = search rules
