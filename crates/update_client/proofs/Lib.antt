@@ -1,6 +1,10 @@
+mod BodyLemmas
+mod ChunkLemmas
+mod FrontLemmas
 mod HandingLemmas
 mod KeepingLemmas
 mod KnownLemmas
 mod PrintedWalkLemmas
+pub mod ReadsLemmas
 mod ReplyLemmas
 pub mod WalkLemmas

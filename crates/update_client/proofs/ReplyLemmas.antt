@@ -10,9 +10,9 @@ use Rattle.http_client_heads.specs.declared.length.BodyLength.TheVariants as len
 use Rattle.http_client_heads.specs.declared.start.Start.{Start}
 use Rattle.http_client_heads.specs.declared.fault.LinkFault.{LinkFault}
 use Rattle.http_client_heads.specs.declared.fault.LinkFault.TheVariants as fault
-use Rattle.chunked_bodies.specs.Failures.{ChunkedRead}
-use Rattle.chunked_bodies.specs.Reads.{Sees}
-use Rattle.chunked_bodies.proofs.ReadsLemmas.{Sees-after}
+use Rattle.update_client.specs.Failures.{ChunkedRead}
+use Rattle.update_client.specs.Reads.{Sees}
+use Rattle.update_client.proofs.ReadsLemmas.{Sees-after}
 use Rattle.update_client.specs.Posts.{ReplyAwaited}
 use Rattle.update_client.specs.Replies.{Announces, BodyFails, BodyRead, HasBody, HeadFails, IsPostFault, PostedWithin, ReplyFails, RestRead}
 use Rattle.update_client.specs.declared.posting.Reply.{Reply}

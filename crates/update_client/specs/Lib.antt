@@ -1,12 +1,17 @@
 pub mod Bodies
+pub mod Chunks
 pub mod Clients
 pub mod Endings
+pub mod Failures
 pub mod Faults
 pub mod Installed
 pub mod Installing
 pub mod Keeping
 pub mod Lines
+pub mod PieceReads
+pub mod Pieces
 pub mod Posts
+pub mod Reads
 pub mod Replies
 pub mod Walking
 pub mod Walks

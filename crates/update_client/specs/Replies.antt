@@ -11,9 +11,9 @@ use Rattle.http_client_heads.specs.declared.length.BodyLength.TheVariants as len
 use Rattle.http_client_heads.specs.declared.start.Start.{Start}
 use Rattle.http_client_heads.specs.declared.fault.LinkFault.{LinkFault}
 use Rattle.http_client_heads.specs.declared.fault.LinkFault.TheVariants as fault
-use Rattle.chunked_bodies.specs.Chunks.{ReadsChunked}
-use Rattle.chunked_bodies.specs.Failures.{ChunkedFails}
-use Rattle.chunked_bodies.specs.Reads.{Sees}
+use Rattle.update_client.specs.Chunks.{ReadsChunked}
+use Rattle.update_client.specs.Failures.{ChunkedFails}
+use Rattle.update_client.specs.Reads.{Sees}
 use Rattle.update_client.specs.declared.posting.Reply.{Reply}
 
 -- bytes that are a head with that status, which announces a body of that length, and then the rest

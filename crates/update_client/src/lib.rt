@@ -16,6 +16,7 @@
 #![tactic(auto)]
 
 mod body;
+mod chunked;
 mod client;
 mod connecting;
 mod fault;
@@ -37,6 +38,7 @@ mod walk_at;
 mod walking;
 
 pub use crate::body::Body;
+pub use crate::chunked::{BLOCK, MAX_CHUNK_LINE, read_chunked, read_more};
 pub use crate::client::Client;
 pub use crate::connecting::post_to;
 pub use crate::fault::Fault;

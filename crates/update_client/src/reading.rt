@@ -1,8 +1,8 @@
 ghost use Rattle.std.specs.Prelude.{◌≡◌, ◌+◌, ◌<◌, [], length};
-ghost use Rattle.chunked_bodies.specs.Reads.{failed_reads};
+ghost use Rattle.update_client.specs.Reads.{failed_reads};
 ghost use Rattle.update_client.specs.Replies.{HeadRead};
 
-use chunked_bodies::read_more;
+use crate::chunked::read_more;
 use http_client_heads::{LinkFault, MAX_HEAD, Start, read_start};
 use http_wire::Source;
 

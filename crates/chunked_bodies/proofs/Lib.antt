@@ -1,4 +1,0 @@
-mod BodyLemmas
-mod ChunkLemmas
-mod FrontLemmas
-pub mod ReadsLemmas

@@ -1,0 +1,122 @@
+-- Bytes that are read and used in parts, each after the one before.
+use Rattle.std.proofs.Common.{◌≡◌, ◌≢◌, ℕ, List, [], ◌++◌, take, drop, Option, Some, None, refl, sym, subst, ap, ◌∙◌, append_assoc, append-nil}
+use Rattle.std.proofs.lemmas.List.{take-append-drop}
+use Rattle.std.specs.Io.KnownBytes.{Consumes}
+use Rattle.http_wire.specs.Devices.{Came, Given}
+use Rattle.http_client_heads.specs.declared.fault.LinkFault.{LinkFault}
+use Rattle.http_client_heads.specs.declared.fault.LinkFault.TheVariants as fault
+use Rattle.update_client.specs.Reads.{IsBroken, Sees, Uses}
+
+Consumes-none : (bytes : Option (List ℕ)) → Consumes bytes bytes []
+Consumes-none None = tt
+Consumes-none (Some xs) = refl
+
+pub Consumes-then :
+    (before between after : Option (List ℕ)) (first second : List ℕ) →
+    Consumes before between first →
+    Consumes between after second →
+    Consumes before after (first ++ second)
+Consumes-then None between after first second one two = tt
+Consumes-then (Some xs) None after first second one two = absurd one
+Consumes-then (Some xs) (Some ys) None first second one two = absurd two
+Consumes-then (Some xs) (Some ys) (Some zs) first second one two =
+    one ∙ ap (λ (rest : List ℕ). first ++ rest) two ∙ sym (append_assoc first second zs)
+
+pub Came-none : (known : Option (List ℕ)) (waiting : List ℕ) → Came known known waiting waiting
+Came-none known waiting = record { bytes = []; consumed = Consumes-none known; behind = sym (append-nil waiting) }
+
+pub Came-then :
+    (old mid new : Option (List ℕ)) (before between after : List ℕ) (count : ℕ) →
+    Came old mid before between →
+    Given mid new between after count →
+    Came old new before after
+Came-then old mid new before between after count came given = record {
+  bytes = came.bytes ++ given.bytes;
+  consumed = Consumes-then old mid new came.bytes given.bytes came.consumed given.consumed;
+  behind =
+      given.behind ∙ ap (λ (front : List ℕ). front ++ given.bytes) came.behind ∙ append_assoc before came.bytes given.bytes;
+}
+
+pub Uses-none : (known : Option (List ℕ)) (waiting : List ℕ) → Uses known known waiting waiting []
+Uses-none known waiting = record { bytes = []; consumed = Consumes-none known; cut = append-nil waiting }
+
+pub Uses-given :
+    (old new : Option (List ℕ)) (before after : List ℕ) (count : ℕ) →
+    Given old new before after count →
+    Uses old new before after []
+Uses-given old new before after count given =
+    record { bytes = given.bytes; consumed = given.consumed; cut = sym given.behind }
+
+pub Uses-front :
+    (known : Option (List ℕ)) (waiting : List ℕ) (count : ℕ) →
+    Uses known known waiting (drop count waiting) (take count waiting)
+Uses-front known waiting count = record {
+  bytes = [];
+  consumed = Consumes-none known;
+  cut = append-nil waiting ∙ sym (take-append-drop count waiting);
+}
+
+-- what is used, and all bytes that are seen after it
+pub seen_after :
+    (before first used between more : List ℕ) →
+    before ++ first ≡ used ++ between →
+    used ++ (between ++ more) ≡ before ++ (first ++ more)
+seen_after before first used between more cut =
+    sym (append_assoc used between more)
+    ∙ ap (λ (text : List ℕ). text ++ more) (sym cut)
+    ∙ append_assoc before first more
+
+pub Uses-then :
+    (old mid new : Option (List ℕ)) (before between after first second : List ℕ) →
+    Uses old mid before between first →
+    Uses mid new between after second →
+    Uses old new before after (first ++ second)
+Uses-then old mid new before between after first second one two = record {
+  bytes = one.bytes ++ two.bytes;
+  consumed = Consumes-then old mid new one.bytes two.bytes one.consumed two.consumed;
+  cut =
+      sym (seen_after before one.bytes first between two.bytes one.cut)
+      ∙ ap (λ (text : List ℕ). first ++ text) two.cut
+      ∙ sym (append_assoc first second after);
+}
+
+pub Sees-after :
+    (old mid new : Option (List ℕ)) (before between used : List ℕ) (part whole : List ℕ → LinkFault → Type 0) (why : LinkFault) →
+    Uses old mid before between used →
+    ((bytes : List ℕ) → part bytes why → whole (used ++ bytes) why) →
+    Sees mid new between part why →
+    Sees old new before whole why
+Sees-after old mid new before between used part whole fault.Ended uses fails (bytes, consumed, failed, at_end) = (
+  uses.bytes ++ bytes,
+  Consumes-then old mid new uses.bytes bytes uses.consumed consumed,
+  subst (λ (text : List ℕ). whole text fault.Ended) (seen_after before uses.bytes used between bytes uses.cut)
+      (fails (between ++ bytes) failed),
+  at_end,
+)
+Sees-after old mid new before between used part whole fault.Memory uses fails sees = tt
+Sees-after old mid new before between used part whole fault.Read uses fails sees = tt
+Sees-after old mid new before between used part whole why uses fails sees = (
+  uses.bytes ++ sees.0,
+  Consumes-then old mid new uses.bytes sees.0 uses.consumed sees.1,
+  subst (λ (text : List ℕ). whole text why) (seen_after before uses.bytes used between sees.0 uses.cut)
+      (fails (between ++ sees.0) sees.2),
+)
+
+pub Sees-broken :
+    (old new : Option (List ℕ)) (before : List ℕ) (fails : List ℕ → LinkFault → Type 0) (why : LinkFault) →
+    IsBroken why →
+    Sees old new before fails why
+Sees-broken old new before fails fault.Memory broken = tt
+Sees-broken old new before fails fault.Read broken = tt
+Sees-broken old new before fails why broken = absurd broken
+
+pub Sees-found :
+    (old new : Option (List ℕ)) (before bytes : List ℕ) (fails : List ℕ → LinkFault → Type 0) (why : LinkFault) →
+    Consumes old new bytes →
+    why ≢ fault.Ended →
+    fails (before ++ bytes) why →
+    Sees old new before fails why
+Sees-found old new before bytes fails fault.Ended consumed other failed = absurd (other refl)
+Sees-found old new before bytes fails fault.Memory consumed other failed = tt
+Sees-found old new before bytes fails fault.Read consumed other failed = tt
+Sees-found old new before bytes fails why consumed other failed = (bytes, consumed, failed)
