@@ -1,7 +1,7 @@
 -- What a post over TCP comes to, and which server is asked after it; this project's profile.
 use Rattle.std.specs.Prelude.{ℕ, ◌+◌, ◌≤◌, ◌==◌, Bool, not, true, nat_lt, length, Result, Ok, Err, if◌then◌else◌, ⊤}
-use Rattle.http_client_heads.specs.declared.fault.LinkFault.{LinkFault}
-use Rattle.http_client_heads.specs.declared.fault.LinkFault.TheVariants as link
+use Rattle.update_client.specs.declared.heads.fault.LinkFault.{LinkFault}
+use Rattle.update_client.specs.declared.heads.fault.LinkFault.TheVariants as link
 use Rattle.update_client.specs.declared.posting.Reply.{Reply}
 use Rattle.etcd_records.specs.declared.gateway.Response.{Response}
 use Rattle.etcd_records.specs.declared.gateway.GatewayFault.{GatewayFault}

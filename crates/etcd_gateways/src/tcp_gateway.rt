@@ -6,13 +6,12 @@ ghost use Rattle.update_client.specs.Replies.{PostedWithin};
 ghost use Rattle.etcd_gateways.specs.Turns.{IsWithin, came_of, goes_on, next_place, place_after};
 
 use etcd_records::{Exchange, Gateway, GatewayFault, Response};
-use http_client_heads::{LinkFault, Post};
 use std::alloc::Global;
 use std::marker::Model;
 use std::net::{Net, TcpListener, TcpStream};
 use std::time::{Clock, Duration};
 use streams::Trace;
-use update_client::{Reply, post_to};
+use update_client::{LinkFault, Post, Reply, post_to};
 use values::{Items, Text};
 
 /// How many bytes the body of a reply may have: 384 MiB.

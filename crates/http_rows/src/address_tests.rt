@@ -1,6 +1,6 @@
 use crate::lines::columns;
 use crate::rows::wrong_row;
-use http_client_heads::parse_address;
+use update_client::parse_address;
 
 // A row is an address, and its authority, host, port and path, or `no`.
 const ROWS: &str = "\

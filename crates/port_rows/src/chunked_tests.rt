@@ -1,11 +1,10 @@
 // Posts whose reply is chunked (RFC 9112, sections 6.1, 6.3 and 7.1), over a source in memory.
 
 use crate::lines::expand;
-use http_client_heads::Post;
 use http_memory::{Input, Output};
 use std::alloc::Global;
 use std::process::Abort;
-use update_client::{LinkFault, post_over};
+use update_client::{LinkFault, Post, post_over};
 
 // The head of a chunked reply.
 const HEAD: &str = "HTTP/1.1 200 OK~Transfer-Encoding: chunked~~";

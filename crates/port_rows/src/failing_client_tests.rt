@@ -1,10 +1,9 @@
 // Posts and downloads whose source or sink fails at one call, whichever it is.
 
-use http_client_heads::{Post, parse_address};
 use http_memory::{Input, Output};
 use std::alloc::Global;
 use std::process::Abort;
-use update_client::{Body, LinkFault, open_over, post_over};
+use update_client::{Body, LinkFault, Post, open_over, parse_address, post_over};
 
 const ADDRESS: &str = "http://h:8080/p/a.bin?x=1";
 

@@ -5,7 +5,7 @@ use Rattle.std.proofs.lemmas.List.Elements.{All-append, All-cons, All-nil}
 use Rattle.std.specs.List.{flat_map}
 use Rattle.std.specs.Io.KnownBytes.{Consumes}
 use Rattle.httparse.specs.Grammar.{ChunkLine, chunk_size, print_chunk_line}
-use Rattle.http_client_heads.specs.declared.fault.LinkFault.{LinkFault}
+use Rattle.update_client.specs.declared.heads.fault.LinkFault.{LinkFault}
 use Rattle.update_client.specs.Chunks.{Chunk, IsChunk, IsLine, ReadsAllChunks, ReadsChunked, ReadsTrailer, content_of, print_chunk}
 use Rattle.update_client.specs.Failures.{ChunkFails, ChunkedFails}
 use Rattle.update_client.specs.Pieces.{TrailerFails}

@@ -4,6 +4,7 @@ mod FrontLemmas
 mod HandingLemmas
 mod KeepingLemmas
 mod KnownLemmas
+mod LengthLemmas
 mod PrintedWalkLemmas
 pub mod ReadsLemmas
 mod ReplyLemmas

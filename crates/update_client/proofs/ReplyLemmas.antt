@@ -4,12 +4,12 @@ use Rattle.std.specs.Io.KnownBytes.{Consumes}
 use Rattle.std.proofs.lemmas.List.{take-append-drop, take_all, drop_all, length-drop, length-take-le}
 use Rattle.httparse.specs.Grammar.{print_response}
 use Rattle.http_wire.specs.Devices.{Came}
-use Rattle.http_client_heads.specs.Starts.{StartFound}
-use Rattle.http_client_heads.specs.declared.length.BodyLength.{BodyLength}
-use Rattle.http_client_heads.specs.declared.length.BodyLength.TheVariants as lengths
-use Rattle.http_client_heads.specs.declared.start.Start.{Start}
-use Rattle.http_client_heads.specs.declared.fault.LinkFault.{LinkFault}
-use Rattle.http_client_heads.specs.declared.fault.LinkFault.TheVariants as fault
+use Rattle.update_client.specs.Starts.{StartFound}
+use Rattle.update_client.specs.declared.heads.length.BodyLength.{BodyLength}
+use Rattle.update_client.specs.declared.heads.length.BodyLength.TheVariants as lengths
+use Rattle.update_client.specs.declared.heads.start.Start.{Start}
+use Rattle.update_client.specs.declared.heads.fault.LinkFault.{LinkFault}
+use Rattle.update_client.specs.declared.heads.fault.LinkFault.TheVariants as fault
 use Rattle.update_client.specs.Failures.{ChunkedRead}
 use Rattle.update_client.specs.Reads.{Sees}
 use Rattle.update_client.proofs.ReadsLemmas.{Sees-after}

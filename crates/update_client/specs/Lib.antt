@@ -1,3 +1,4 @@
+pub mod Addresses
 pub mod Bodies
 pub mod Chunks
 pub mod Clients
@@ -7,11 +8,14 @@ pub mod Faults
 pub mod Installed
 pub mod Installing
 pub mod Keeping
+pub mod Lengths
 pub mod Lines
 pub mod PieceReads
 pub mod Pieces
 pub mod Posts
 pub mod Reads
 pub mod Replies
+pub mod Requests
+pub mod Starts
 pub mod Walking
 pub mod Walks

@@ -3,8 +3,8 @@ use Rattle.std.specs.Prelude.{◌≡◌, ◌≢◌, ◌<◌, ◌≤◌, ◌⊎�
 use Rattle.httparse.specs.Ascii.{crlf_bytes}
 use Rattle.httparse.specs.Grammar.{ChunkLine, chunk_size, HasNoChunkLine, MayBecomeChunkLine, NeverHasChunkLine, HasNoSection, MayBecomeSection, NeverHasSection}
 use Rattle.httparse.specs.Spans.{SectionExceeds}
-use Rattle.http_client_heads.specs.declared.fault.LinkFault.{LinkFault}
-use Rattle.http_client_heads.specs.declared.fault.LinkFault.TheVariants as fault
+use Rattle.update_client.specs.declared.heads.fault.LinkFault.{LinkFault}
+use Rattle.update_client.specs.declared.heads.fault.LinkFault.TheVariants as fault
 use Rattle.update_client.specs.Chunks.{ReadsLine, ReadsTrailer}
 use Rattle.update_client.specs.declared.chunked.piece.Piece.{Piece}
 use Rattle.update_client.specs.declared.chunked.piece.Piece.TheVariants as piece

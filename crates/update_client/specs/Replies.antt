@@ -4,13 +4,13 @@ use Rattle.std.specs.Io.KnownBytes.{Appends, Consumes, IsAtEnd, Keeps}
 use Rattle.httparse.specs.Grammar.{ResponseHead, ReadsResponse, status_code}
 use Rattle.http_wire.specs.Devices.{Came}
 use Rattle.http_wire.specs.Sending.{AppendsPart}
-use Rattle.http_client_heads.specs.Lengths.{IsHeadFault}
-use Rattle.http_client_heads.specs.Starts.{StartFound, length_after}
-use Rattle.http_client_heads.specs.declared.length.BodyLength.{BodyLength}
-use Rattle.http_client_heads.specs.declared.length.BodyLength.TheVariants as lengths
-use Rattle.http_client_heads.specs.declared.start.Start.{Start}
-use Rattle.http_client_heads.specs.declared.fault.LinkFault.{LinkFault}
-use Rattle.http_client_heads.specs.declared.fault.LinkFault.TheVariants as fault
+use Rattle.update_client.specs.Lengths.{IsHeadFault}
+use Rattle.update_client.specs.Starts.{StartFound, length_after}
+use Rattle.update_client.specs.declared.heads.length.BodyLength.{BodyLength}
+use Rattle.update_client.specs.declared.heads.length.BodyLength.TheVariants as lengths
+use Rattle.update_client.specs.declared.heads.start.Start.{Start}
+use Rattle.update_client.specs.declared.heads.fault.LinkFault.{LinkFault}
+use Rattle.update_client.specs.declared.heads.fault.LinkFault.TheVariants as fault
 use Rattle.update_client.specs.Chunks.{ReadsChunked}
 use Rattle.update_client.specs.Failures.{ChunkedFails}
 use Rattle.update_client.specs.Reads.{Sees}

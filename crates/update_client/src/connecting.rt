@@ -3,10 +3,10 @@ ghost use Rattle.update_client.specs.Bodies.{left_of};
 ghost use Rattle.update_client.specs.Replies.{PostedWithin};
 
 use crate::body::Body;
+use crate::heads::{Address, LinkFault, Post, parse_address};
 use crate::opening::open_over;
 use crate::posting::{Reply, post_over};
 use crate::timed::{Deadline, Timed, connect, connect_path};
-use http_client_heads::{Address, LinkFault, Post, parse_address};
 use http_devices::{Reading, Writing};
 use http_wire::Failed;
 use std::alloc::Global;

@@ -21,6 +21,7 @@ mod client;
 mod connecting;
 mod fault;
 mod handing;
+mod heads;
 mod hearing;
 mod http_link;
 mod installer;
@@ -42,6 +43,10 @@ pub use crate::chunked::{BLOCK, MAX_CHUNK_LINE, read_chunked, read_more};
 pub use crate::client::Client;
 pub use crate::connecting::post_to;
 pub use crate::fault::Fault;
+pub use crate::heads::{
+    Address, BodyLength, LinkFault, MAX_FIELDS, MAX_HEAD, Post, Start, body_length, get_request,
+    parse_address, post_request, read_start,
+};
 pub use crate::hearing::Accepted;
 pub use crate::http_link::{HttpLink, MAX_REPLY, UPDATE_PATH};
 pub use crate::installer::{Installer, Step};

@@ -1,13 +1,13 @@
 ghost use Rattle.std.specs.Prelude.{◌≡◌, ◌+◌};
-ghost use Rattle.http_client_heads.specs.Requests.{get_request};
+ghost use Rattle.update_client.specs.Requests.{get_request};
 ghost use Rattle.update_client.specs.Reads.{failed_reads};
 ghost use Rattle.update_client.specs.Bodies.{BodyOpened};
 ghost use Rattle.update_client.specs.Replies.{RequestWritten, failed_writes};
 
 use crate::body::Body;
 use crate::chunked::BLOCK;
+use crate::heads::{Address, BodyLength, LinkFault, get_request};
 use crate::reading::read_head;
-use http_client_heads::{Address, BodyLength, LinkFault, get_request};
 use http_wire::{Sink, Source, send};
 use std::alloc::Global;
 

@@ -1,13 +1,13 @@
 ghost use Rattle.std.specs.Prelude.{◌≡◌, ◌+◌, ◌≤◌, ◌<◌, drop, length, vec_len};
-ghost use Rattle.http_client_heads.specs.Requests.{post_request};
-ghost use Rattle.http_client_heads.specs.declared.length.BodyLength.TheVariants as lengths;
+ghost use Rattle.update_client.specs.Requests.{post_request};
+ghost use Rattle.update_client.specs.declared.heads.length.BodyLength.TheVariants as lengths;
 ghost use Rattle.update_client.specs.Reads.{failed_reads};
 ghost use Rattle.update_client.specs.Posts.{PostSent, ReplyAwaited, after_failed_write};
 ghost use Rattle.update_client.specs.Replies.{BodyRead, ReplyRead, RestRead, accepted_reply, failed_writes};
 
 use crate::chunked::{BLOCK, read_chunked, read_more};
+use crate::heads::{BodyLength, LinkFault, Post, Start, post_request};
 use crate::reading::read_head;
-use http_client_heads::{BodyLength, LinkFault, Post, Start, post_request};
 use http_wire::{Sink, Source, send};
 use std::alloc::Global;
 

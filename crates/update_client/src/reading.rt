@@ -3,7 +3,7 @@ ghost use Rattle.update_client.specs.Reads.{failed_reads};
 ghost use Rattle.update_client.specs.Replies.{HeadRead};
 
 use crate::chunked::read_more;
-use http_client_heads::{LinkFault, MAX_HEAD, Start, read_start};
+use crate::heads::{LinkFault, MAX_HEAD, Start, read_start};
 use http_wire::Source;
 
 // rule: Reply that a link reads

@@ -5,7 +5,7 @@ ghost use Rattle.update_client.specs.Reads.{failed_reads};
 
 use crate::chunked::piece::{Piece, read_piece};
 use crate::chunked::waiting::Waiting;
-use http_client_heads::LinkFault;
+use crate::heads::LinkFault;
 use http_wire::Source;
 use std::alloc::Global;
 

@@ -5,7 +5,7 @@ ghost use Rattle.update_client.specs.Reads.{failed_reads};
 ghost use Rattle.update_client.specs.declared.chunked.piece.Piece.TheVariants as piece;
 
 use crate::chunked::waiting::Waiting;
-use http_client_heads::{LinkFault, MAX_FIELDS, MAX_HEAD};
+use crate::heads::{LinkFault, MAX_FIELDS, MAX_HEAD};
 use http_wire::Source;
 use httparse::spans::{EMPTY_HEADER_SPAN, parse_headers};
 use httparse::{Error, Status, parse_chunk_size};

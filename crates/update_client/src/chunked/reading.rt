@@ -2,7 +2,7 @@ ghost use Rattle.std.specs.Prelude.{◌≡◌, ◌+◌, ◌<◌, ◌≤◌, leng
 ghost use Rattle.http_wire.specs.Devices.{Given};
 ghost use Rattle.update_client.specs.Reads.{IsBroken, failed_reads};
 
-use http_client_heads::LinkFault;
+use crate::heads::LinkFault;
 use http_wire::Source;
 
 /// How many bytes a read of a reply takes at most.

@@ -3,7 +3,7 @@ ghost use Rattle.http_wire.specs.Devices.{Given};
 ghost use Rattle.update_client.specs.Reads.{IsBroken, failed_reads};
 
 use crate::chunked::reading::read_more;
-use http_client_heads::LinkFault;
+use crate::heads::LinkFault;
 use http_wire::Source;
 use std::marker::Model;
 

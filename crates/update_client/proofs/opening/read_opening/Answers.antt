@@ -1,5 +1,5 @@
 use Rattle.std.proofs.Common.{drop, inr, subst}
-use Rattle.http_client_heads.specs.declared.length.BodyLength.{BodyLength}
+use Rattle.update_client.specs.declared.heads.length.BodyLength.{BodyLength}
 use Rattle.update_client.specs.Replies.{Announces}
 use Rattle.update_client.proofs.ReplyLemmas.{announced}
 use Rattle.update_client.proofs.opening.read_opening.Goals as goal

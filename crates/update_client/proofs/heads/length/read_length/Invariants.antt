@@ -2,7 +2,7 @@ use Rattle.std.proofs.Common.{◌≡◌, true, take, min}
 use Rattle.std.specs.List.{list_all}
 use Rattle.std.specs.Char.{is_ascii_digit}
 use Rattle.std.specs.Str.Parse.{digits_value}
-use Rattle.http_client_heads.proofs.length.read_length.Given as goal
+use Rattle.update_client.proofs.heads.length.read_length.Given as goal
 
 abbrev pub invariant-loop-byte : goal.invariant-loop-byte
 invariant-loop-byte l =

@@ -1,7 +1,7 @@
 -- The bytes of a client's requests (RFC 9112, section 3); which fields they have is this project's profile.
 use Rattle.std.specs.Prelude.{ℕ, List, ◌++◌, length, decimal, codes}
-use Rattle.http_client_heads.specs.declared.address.Address.{Address}
-use Rattle.http_client_heads.specs.declared.request.Post.{Post}
+use Rattle.update_client.specs.declared.heads.address.Address.{Address}
+use Rattle.update_client.specs.declared.heads.request.Post.{Post}
 
 -- the head of a GET of the path at the host, over a connection of its own
 unfoldable pub get_lines : List ℕ → List ℕ → List ℕ

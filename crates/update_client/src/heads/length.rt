@@ -1,9 +1,9 @@
 ghost use Rattle.std.specs.Prelude.{◌≡◌, ◌∷◌, [], length, map, All, IfErr, MatchOption, codes};
 ghost use Rattle.httparse.specs.Spans.{IsHeaderWithin, header_bytes};
 ghost use Rattle.http_wire.specs.Fields.{is_named, values_named};
-ghost use Rattle.http_client_heads.specs.Lengths.{IsHeadFault, body_length, is_chunked, known_length, length_in};
+ghost use Rattle.update_client.specs.Lengths.{IsHeadFault, body_length, is_chunked, known_length, length_in};
 
-use crate::fault::LinkFault;
+use crate::heads::fault::LinkFault;
 use httparse::spans::HeaderSpan;
 
 // The first length that is too long: 2^64.

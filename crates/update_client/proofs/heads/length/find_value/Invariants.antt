@@ -1,7 +1,7 @@
 use Rattle.std.proofs.Common.{◌≡◌, length, map, All}
 use Rattle.httparse.specs.Spans.{IsHeaderWithin, header_bytes}
 use Rattle.http_wire.specs.Fields.{values_named}
-use Rattle.http_client_heads.proofs.length.find_value.Given as goal
+use Rattle.update_client.proofs.heads.length.find_value.Given as goal
 
 abbrev pub invariant-loop-fields : goal.invariant-loop-fields
 invariant-loop-fields l =

@@ -4,10 +4,10 @@ use Rattle.std.specs.Prelude.{ℕ, Bool, ◌^◌, ◌&&◌, ◌==◌, nat_lt, Li
 use Rattle.std.specs.Str.Parse.{digits_value}
 use Rattle.http_wire.specs.Fields.{Pair, is_same_word, values_named}
 use Rattle.http_wire.specs.Framing.{is_number}
-use Rattle.http_client_heads.specs.declared.fault.LinkFault.{LinkFault}
-use Rattle.http_client_heads.specs.declared.fault.LinkFault.TheVariants as fault
-use Rattle.http_client_heads.specs.declared.length.BodyLength.{BodyLength}
-use Rattle.http_client_heads.specs.declared.length.BodyLength.TheVariants as body
+use Rattle.update_client.specs.declared.heads.fault.LinkFault.{LinkFault}
+use Rattle.update_client.specs.declared.heads.fault.LinkFault.TheVariants as fault
+use Rattle.update_client.specs.declared.heads.length.BodyLength.{BodyLength}
+use Rattle.update_client.specs.declared.heads.length.BodyLength.TheVariants as body
 
 -- a fault of a head
 abbrev pub IsHeadFault : LinkFault → Type 0

@@ -1,8 +1,8 @@
 ghost use Rattle.std.specs.Prelude.{◌≡◌, ◌<◌, Option, MatchOption, None, Some};
 ghost use Rattle.std.specs.List.{list_all};
-ghost use Rattle.http_client_heads.specs.Addresses.{address_in, is_host_byte, is_literal, is_literal_byte, is_name, is_path, is_path_byte, literal_by, named_by, parts_after, parts_at, parts_by, parts_of, place_at, place_in, port_after, port_in, split_at};
+ghost use Rattle.update_client.specs.Addresses.{address_in, is_host_byte, is_literal, is_literal_byte, is_name, is_path, is_path_byte, literal_by, named_by, parts_after, parts_at, parts_by, parts_of, place_at, place_in, port_after, port_in, split_at};
 
-use crate::length::read_length;
+use crate::heads::length::read_length;
 
 /// The address of a download.
 #[derive(Clone, Copy, Debug, Drop)]

@@ -1,7 +1,7 @@
 ghost use Rattle.std.specs.Prelude.{◌≡◌, IfOk, string_bytes};
-ghost use Rattle.http_client_heads.specs.Requests.{get_lines, get_request, post_lines, post_request};
+ghost use Rattle.update_client.specs.Requests.{get_lines, get_request, post_lines, post_request};
 
-use crate::address::Address;
+use crate::heads::address::Address;
 use std::alloc::{AllocError, Global};
 
 // The head of a download's request.

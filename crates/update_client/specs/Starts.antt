@@ -3,11 +3,11 @@
 use Rattle.std.specs.Prelude.{◌≡◌, ◌<◌, ◌≤◌, ◌⊎◌, ℕ, List, length, drop, map, Option, None, Some, Result, Ok, Err}
 use Rattle.httparse.specs.Grammar.{ResponseHead, ReadsResponse, HasNoResponse, MayBecomeResponse, NeverHasResponse, print_response, status_code}
 use Rattle.httparse.specs.Spans.{ResponseExceeds, name_and_value}
-use Rattle.http_client_heads.specs.declared.fault.LinkFault.{LinkFault}
-use Rattle.http_client_heads.specs.declared.fault.LinkFault.TheVariants as fault
-use Rattle.http_client_heads.specs.declared.length.BodyLength.{BodyLength}
-use Rattle.http_client_heads.specs.declared.start.Start.{Start}
-use Rattle.http_client_heads.specs.Lengths.{IsHeadFault, body_length}
+use Rattle.update_client.specs.declared.heads.fault.LinkFault.{LinkFault}
+use Rattle.update_client.specs.declared.heads.fault.LinkFault.TheVariants as fault
+use Rattle.update_client.specs.declared.heads.length.BodyLength.{BodyLength}
+use Rattle.update_client.specs.declared.heads.start.Start.{Start}
+use Rattle.update_client.specs.Lengths.{IsHeadFault, body_length}
 
 -- how long the body after a head is, or why the head is rejected
 abbrev pub length_after : ResponseHead → Result BodyLength LinkFault

@@ -6,16 +6,14 @@
 //!
 //! It does not read or write: its caller carries the bytes.
 
-#![tactic(auto)]
-
 mod address;
 mod fault;
 mod length;
 mod request;
 mod start;
 
-pub use crate::address::{Address, parse_address};
-pub use crate::fault::LinkFault;
-pub use crate::length::{BodyLength, body_length};
-pub use crate::request::{Post, get_request, post_request};
-pub use crate::start::{MAX_FIELDS, MAX_HEAD, Start, read_start};
+pub use crate::heads::address::{Address, parse_address};
+pub use crate::heads::fault::LinkFault;
+pub use crate::heads::length::{BodyLength, body_length};
+pub use crate::heads::request::{Post, get_request, post_request};
+pub use crate::heads::start::{MAX_FIELDS, MAX_HEAD, Start, read_start};

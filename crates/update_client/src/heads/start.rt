@@ -1,8 +1,8 @@
 ghost use Rattle.std.specs.Prelude.{◌≡◌};
-ghost use Rattle.http_client_heads.specs.Starts.{StartFound};
+ghost use Rattle.update_client.specs.Starts.{StartFound};
 
-use crate::fault::LinkFault;
-use crate::length::{BodyLength, body_length};
+use crate::heads::fault::LinkFault;
+use crate::heads::length::{BodyLength, body_length};
 use httparse::spans::{EMPTY_HEADER_SPAN, parse_response};
 use httparse::{Error, Status};
 

@@ -3,9 +3,9 @@
 use Rattle.std.specs.Prelude.{ℕ, Bool, ◌&&◌, ◌||◌, ◌==◌, not, nat_lt, List, length, Option, None, Some, Result, Ok, Err, if◌then◌else◌, bytes_eq, codes}
 use Rattle.std.specs.List.{list_all, position_or_len, before_first, after_first}
 use Rattle.std.specs.Char.{is_ascii_alphanumeric, is_ascii_hexdigit}
-use Rattle.http_client_heads.specs.declared.fault.LinkFault.{LinkFault}
-use Rattle.http_client_heads.specs.Lengths.{length_in}
-use Rattle.http_client_heads.specs.declared.address.Address.{Address}
+use Rattle.update_client.specs.declared.heads.fault.LinkFault.{LinkFault}
+use Rattle.update_client.specs.Lengths.{length_in}
+use Rattle.update_client.specs.declared.heads.address.Address.{Address}
 
 -- a byte of a host's name: a letter, a digit, or one of `-._`
 abbrev pub is_host_byte : ℕ → Bool

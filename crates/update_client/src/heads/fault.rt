@@ -48,7 +48,7 @@ pub enum LinkFault {
 
 impl From<AllocError> for LinkFault {
     ghost use Rattle.std.specs.Prelude.{◌≡◌};
-    ghost use Rattle.http_client_heads.specs.declared.fault.LinkFault.TheVariants.{Memory};
+    ghost use Rattle.update_client.specs.declared.heads.fault.LinkFault.TheVariants.{Memory};
 
     ghost from_gives = { λ _ fault. fault ≡ Memory };
 

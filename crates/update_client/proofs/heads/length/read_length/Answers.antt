@@ -2,8 +2,8 @@ use Rattle.std.proofs.Common.{◌≡◌, get_or, ◌&&◌, arith, sym, ◌∙◌
 use Rattle.std.specs.Char.{is_ascii_digit, digit_value}
 use Rattle.std.proofs.lemmas.Bool.Decides.{nat_tests}
 use Rattle.std.proofs.lemmas.List.Folds.{list_all_more}
-use Rattle.http_client_heads.proofs.LengthLemmas.{min-digits}
-use Rattle.http_client_heads.proofs.length.read_length.Goals as goal
+use Rattle.update_client.proofs.LengthLemmas.{min-digits}
+use Rattle.update_client.proofs.heads.length.read_length.Goals as goal
 
 pub loop-byte-preserved : goal.loop-byte-preserved
 loop-byte-preserved c =

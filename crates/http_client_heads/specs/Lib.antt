@@ -1,4 +1,0 @@
-pub mod Lengths
-pub mod Starts
-pub mod Addresses
-pub mod Requests
