@@ -1,3 +1,5 @@
 pub mod Calls
 pub mod Failures
+pub mod Peers
+pub mod Seats
 pub mod Shelves

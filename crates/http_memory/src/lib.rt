@@ -16,6 +16,7 @@ mod connection;
 mod failures;
 mod input;
 mod output;
+mod scripts;
 mod shelf;
 
 pub use crate::clock::FixedClock;
@@ -23,4 +24,5 @@ pub use crate::connection::Connection;
 pub use crate::failures::Failures;
 pub use crate::input::Input;
 pub use crate::output::Output;
+pub use crate::scripts::{Finish, Peer, Script, Seat};
 pub use crate::shelf::{Content, File, Shelf};

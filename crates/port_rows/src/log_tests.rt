@@ -2,18 +2,18 @@
 
 ghost use Rattle.std.specs.Prelude.{◌≡◌, ℕ};
 ghost use Rattle.http_ports.specs.Traffic.{unused};
-ghost use Rattle.port_scripts.specs.Seats.{accepted_in, slots_of};
+ghost use Rattle.http_memory.specs.Seats.{accepted_in, slots_of};
 ghost use Rattle.access_logs.specs.Logs.{IsFresh};
 
 use crate::desk::{CLOCK, Echo, FILES};
 use crate::logs::{lines_of, open_lines};
 use crate::peers::script_of;
 use access_logs::{LoggedPort, Places};
+use http_memory::Script;
 use http_ports::run;
 use http_sessions::Buffers;
 use http_talks::{Talk, Talks};
 use log_queues::{EndedSender, LineSender};
-use port_scripts::Script;
 use std::alloc::Global;
 use std::sync::Wait;
 

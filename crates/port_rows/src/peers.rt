@@ -2,11 +2,11 @@
 
 ghost use Rattle.std.specs.Prelude.{◌≡◌, ℕ, IfSome};
 ghost use Rattle.http_ports.specs.Traffic.{unused};
-ghost use Rattle.port_scripts.specs.Seats.{accepted_in, slots_of};
+ghost use Rattle.http_memory.specs.Seats.{accepted_in, slots_of};
 
 use crate::lines::{columns, expand};
+use http_memory::{Finish, Peer, Script, Seat};
 use http_ports::Last;
-use port_scripts::{Finish, Peer, Script, Seat};
 use std::alloc::Global;
 
 // How a peer behaves, and at which slot.

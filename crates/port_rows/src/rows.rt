@@ -2,14 +2,14 @@
 
 ghost use Rattle.std.specs.Prelude.{◌≡◌, ℕ, vec_len};
 ghost use Rattle.http_ports.specs.Traffic.{unused};
-ghost use Rattle.port_scripts.specs.Seats.{accepted_in, slots_of};
+ghost use Rattle.http_memory.specs.Seats.{accepted_in, slots_of};
 
 use crate::desk::{Echo, FILES};
 use crate::peers::{are_as_said, script_of};
+use http_memory::Script;
 use http_ports::{Port, run};
 use http_sessions::Buffers;
 use http_talks::{Talk, Talks};
-use port_scripts::Script;
 use std::sync::Wait;
 
 // Serves the peers of a script; for how many memory ran out.

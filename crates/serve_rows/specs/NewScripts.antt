@@ -1,7 +1,7 @@
 -- New ports in memory, for tests.
 use Rattle.std.specs.Prelude.{◌≡◌}
-use Rattle.port_scripts.specs.Seats.{AreDone, accepted_in, slots_of}
-use Rattle.port_scripts.specs.declared.script.Script.{Script}
+use Rattle.http_memory.specs.Seats.{AreDone, accepted_in, slots_of}
+use Rattle.http_memory.specs.declared.scripts.script.Script.{Script}
 use Rattle.systems.specs.NewPorts.{IsNew}
 
 -- a new port in memory

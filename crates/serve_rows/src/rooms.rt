@@ -5,10 +5,10 @@ ghost use Rattle.serve_rows.specs.NewScripts.{IsNewScript};
 
 use crate::turns::{Part, Turns};
 use http_desks::{Desk, Packages};
+use http_memory::{Peer, Script, Seat};
 use http_ports::{Port, Terms, WatchEach};
 use http_talks::{Connections, serve_port};
 use http_wire::Failed;
-use port_scripts::{Peer, Script, Seat};
 use std::alloc::{AllocError, Global};
 use std::fs::File;
 use std::io;

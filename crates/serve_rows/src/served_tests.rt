@@ -1,9 +1,9 @@
 // Every byte of a server's connections, over ports in memory.
 
 use crate::rooms::Rooms;
+use http_memory::{Peer, Script};
 use kept_records::Unkept;
 use omaha_server::{Place, ServedPort, ServedPorts, serve};
-use port_scripts::{Peer, Script};
 use services::{KeptService, builtin_service};
 use std::alloc::{AllocError, Global};
 use std::io;

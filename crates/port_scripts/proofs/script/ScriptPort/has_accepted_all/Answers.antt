@@ -1,9 +1,0 @@
-use Rattle.std.proofs.Common.{◌∙◌, subst}
-use Rattle.port_scripts.specs.Seats.{AreDone}
-use Rattle.port_scripts.proofs.CountLemmas.{accepted_in-done}
-use Rattle.port_scripts.proofs.script.ScriptPort.has_accepted_all.Goals as goal
-
-pub returns : goal.returns
-returns c = λ all.
-    accepted_in-done c.args.self.now.seats.items (subst AreDone c.deref.ensures.value (c.all_done.ensures all))
-    ∙ c.args.self.now.limited

@@ -1,8 +1,0 @@
-use Rattle.port_scripts.specs.Peers.{after_write}
-use Rattle.port_scripts.proofs.SeatLemmas.{changes}
-use Rattle.port_scripts.proofs.seat.Seat.write.Goals as goal
-
-pub returns-clause-changes : goal.returns-clause-changes
-returns-clause-changes c =
-    changes c.args.self.now.peers.items c.args.self.now.ended c.args.self.now.is_open c.index_mut.result.now c.write.new.self
-    (after_write c.write.result c.args.bytes.now) c.requires.live c.index_mut.ensures.value c.write.ensures.takes.traffic
