@@ -1,4 +1,6 @@
+pub mod BookLemmas
 pub mod KeptLemmas
+pub mod PlaceLemmas
 mod RoundLemmas
 mod SlotLemmas
 mod StepLemmas

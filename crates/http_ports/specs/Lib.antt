@@ -1,7 +1,8 @@
-pub mod Traffic
+pub mod Books
+pub mod Loops
 pub mod Ports
 pub mod Rounds
-pub mod Sums
 pub mod Speech
-pub mod Loops
 pub mod Steps
+pub mod Sums
+pub mod Traffic

@@ -10,6 +10,7 @@
 
 #![tactic(auto)]
 
+mod books;
 mod event;
 mod last;
 mod looping;
@@ -21,6 +22,7 @@ mod terms;
 mod timestamp;
 mod watch;
 
+pub use crate::books::{Book, Change, Move, Place};
 pub use crate::event::{Event, Received, Sent};
 pub use crate::last::Last;
 pub use crate::looping::run;

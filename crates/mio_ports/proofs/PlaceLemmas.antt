@@ -6,8 +6,8 @@ use Rattle.http_ports.specs.Ports.{IsWaiting}
 use Rattle.http_ports.specs.Traffic.{IsOpen, Slot, Traffic}
 use Rattle.http_ports.specs.declared.last.Last.{Last}
 use Rattle.http_ports.specs.declared.last.Last.TheVariants as last
-use Rattle.port_books.specs.Books.{is_waiting, kept_waits, slot_waits}
-use Rattle.port_books.specs.declared.place.Place.{Place}
+use Rattle.http_ports.specs.Books.{is_waiting, kept_waits, slot_waits}
+use Rattle.http_ports.specs.declared.books.place.Place.{Place}
 
 free_of : (current : Option Traffic) → option_map (λ (t : Traffic). is_waiting t.last) current ≡ None → current ≡ None
 free_of None none = refl

@@ -3,12 +3,11 @@
 ghost use Rattle.std.specs.Prelude.{◌≡◌, ◌<◌, length, vec_len};
 ghost use Rattle.http_ports.specs.Ports.{Reads, Writes};
 ghost use Rattle.http_ports.specs.Traffic.{IsOpen};
-ghost use Rattle.port_books.specs.Books.{accepted_in, slots_after};
+ghost use Rattle.http_ports.specs.Books.{accepted_in, slots_after};
 ghost use Rattle.mio_ports.specs.Polled.{IsReceived, IsSent};
 
-use http_ports::{Last, Received, Sent};
+use http_ports::{Book, Change, Last, Received, Sent};
 use mio::net::TcpStream;
-use port_books::{Book, Change};
 use std::io::{ErrorKind, Read, Write};
 use streams::Trace;
 

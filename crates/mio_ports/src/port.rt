@@ -1,5 +1,5 @@
 ghost use Rattle.std.specs.Prelude.{◌≡◌, ◌≤◌, ℕ, [], IfSome, vec_len};
-ghost use Rattle.port_books.specs.Books.{accepted_in};
+ghost use Rattle.http_ports.specs.Books.{accepted_in};
 
 use crate::door::Door;
 use crate::drained::DrainedList;
@@ -8,11 +8,10 @@ use crate::listener::Listener;
 use crate::sign::EndSign;
 use crate::times::Times;
 use crate::waiting_list::WaitingList;
-use http_ports::Terms;
+use http_ports::{Book, Terms};
 use mio::net::TcpStream;
 use mio::unix::SourceFd;
 use mio::{Events, Interest, Poll, Token};
-use port_books::Book;
 use std::alloc::{AllocError, Global};
 use std::net::{IpAddr, Net, SocketAddr};
 use std::sync::{Arc, Wait};

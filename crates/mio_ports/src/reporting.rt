@@ -1,14 +1,13 @@
 // What a port over sockets has to report without waiting.
 
 ghost use Rattle.std.specs.Prelude.{◌≡◌, ◌⊎◌, ◌<◌, ◌+◌, ℕ, None, Some, true, IfNone, IfSome, IsSome, IsTrue, vec_len};
-ghost use Rattle.port_books.specs.Books.{accepted_in, slot_waits, slots_after};
+ghost use Rattle.http_ports.specs.Books.{accepted_in, slot_waits, slots_after};
 ghost use Rattle.mio_ports.specs.Polled.{MayReport, accepted_of};
 
 use crate::port::MioPort;
-use http_ports::{Event, Last};
+use http_ports::{Change, Event, Last};
 use mio::net::TcpStream;
 use mio::{Interest, Token};
-use port_books::Change;
 use std::sync::Wait;
 use std::time::Clock;
 

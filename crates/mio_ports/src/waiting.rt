@@ -6,8 +6,7 @@ use crate::passing::{note_read, note_write, read_stream, write_stream};
 use crate::port::{EVENTS, LISTENER, MioPort};
 use http_desks::Clock as _;
 use http_devices::SystemClock;
-use http_ports::{Event, Last, Port, Received, Sent, Terms};
-use port_books::Change;
+use http_ports::{Change, Event, Last, Port, Received, Sent, Terms};
 use std::net::IpAddr;
 use std::sync::Wait;
 use std::time::{Clock, Duration};
@@ -85,7 +84,7 @@ impl<R: Wait + Clock> MioPort<'_, R> {
 
 impl<R: Wait + Clock> Port for MioPort<'_, R> {
     ghost use Rattle.std.specs.Prelude.{◌≡◌, ◌⊎◌, None, true};
-    ghost use Rattle.port_books.specs.Books.{accepted_in, slots_after};
+    ghost use Rattle.http_ports.specs.Books.{accepted_in, slots_after};
 
     type Own = ();
 

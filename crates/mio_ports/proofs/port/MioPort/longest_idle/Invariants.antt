@@ -1,5 +1,5 @@
 use Rattle.std.proofs.Common.{◌≡◌, ◌<◌, Some, true, IfSome, vec_len}
-use Rattle.port_books.specs.Books.{slot_waits, slots_after}
+use Rattle.http_ports.specs.Books.{slot_waits, slots_after}
 use Rattle.mio_ports.proofs.port.MioPort.longest_idle.Given as goal
 
 abbrev pub invariant-loop-slot : goal.invariant-loop-slot

@@ -1,5 +1,5 @@
 use Rattle.std.proofs.Common.{◌∙◌, refl, sym, ap, arith}
-use Rattle.port_books.specs.Books.{slots_after}
+use Rattle.http_ports.specs.Books.{slots_after}
 use Rattle.mio_ports.proofs.PlaceLemmas.{all_free}
 use Rattle.mio_ports.proofs.waiting.MioPortPort.wait.Goals as goal
 

@@ -1,2 +1,0 @@
-pub mod BookLemmas
-pub mod PlaceLemmas
