@@ -1,5 +1,10 @@
-pub mod Messages
-pub mod Stops
-pub mod Readings
-pub mod Sessions
 pub mod Laws
+pub mod Leaves
+pub mod Messages
+pub mod Ports
+pub mod Readings
+pub mod Sends
+pub mod Sessions
+pub mod Stops
+pub mod Talks
+pub mod Timestamps

@@ -18,6 +18,7 @@ pub mod laws;
 mod message;
 mod serving;
 mod session;
+mod talks;
 mod turning;
 
 pub use crate::buffers::Buffers;
@@ -25,5 +26,6 @@ pub use crate::ends::{End, Fault, Served};
 pub use crate::foreseeing::{Foreseen, Found};
 pub use crate::serving::{serve, serve_at};
 pub use crate::session::{MAX_MESSAGES, Session, Turn};
+pub use crate::talks::{Connections, Talk, Talks, Watched, WatchedTalks, serve_port};
 pub use http_desks::{Answer, Clock, Declared, Desk, DeskStatus, Off, Packages, Site};
 pub use http_wire::{Sink, Source};

@@ -6,7 +6,7 @@ use Rattle.http_desks.specs.declared.desk.Off.{Off}
 use Rattle.http_desks.specs.declared.desk.Off.TheVariants as off
 use Rattle.http_ports.specs.Rounds.{all_calls}
 use Rattle.http_ports.specs.declared.terms.Terms.{Terms}
-use Rattle.http_talks.specs.Ports.{Passage}
+use Rattle.http_sessions.specs.Ports.{Passage}
 use Rattle.mirror_ledger.specs.Asks.{Ask}
 use Rattle.publisher.specs.Sights.{Sight}
 use Rattle.catalogue.specs.declared.mirror.Mirror.{Mirror}

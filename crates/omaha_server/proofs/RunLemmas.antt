@@ -10,7 +10,7 @@ use Rattle.http_desks.specs.Calls.{Call}
 use Rattle.http_ports.specs.Rounds.{all_calls}
 use Rattle.http_ports.specs.Traffic.{Slot}
 use Rattle.http_ports.specs.declared.terms.Terms.{Terms}
-use Rattle.http_talks.specs.Ports.{Passage}
+use Rattle.http_sessions.specs.Ports.{Passage}
 use Rattle.mirror_ledger.specs.Asks.{Ask}
 use Rattle.mirror_ledger.specs.Tills.{AreTotalsOf, HadNoRoom, HasEnded, HaveWorked, WorksAs}
 use Rattle.mirror_ledger.specs.declared.running.Ran.{Ran}

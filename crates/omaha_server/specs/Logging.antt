@@ -5,7 +5,7 @@ use Rattle.std.specs.Option.{is_some}
 use Rattle.access_logs.specs.Logs.{IsLogOf}
 use Rattle.http_ports.specs.Speech.{one_if}
 use Rattle.http_ports.specs.Traffic.{Slot}
-use Rattle.http_talks.specs.Ports.{Passage}
+use Rattle.http_sessions.specs.Ports.{Passage}
 use Rattle.log_queues.specs.Queues.{Ended, IsWhole, Sending}
 use Rattle.log_queues.specs.declared.page.Page.{Page}
 use Rattle.rtrb.specs.Ring.{SameProducer}

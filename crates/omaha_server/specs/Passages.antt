@@ -2,7 +2,7 @@
 use Rattle.std.specs.Prelude.{◌≡◌, ℕ, All, IfSome, List, map, Option, option_map, Result, Ok, Err}
 use Rattle.http_ports.specs.Traffic.{Slot}
 use Rattle.http_ports.specs.declared.terms.Terms.{Terms}
-use Rattle.http_talks.specs.Ports.{Passage}
+use Rattle.http_sessions.specs.Ports.{Passage}
 use Rattle.omaha_server.specs.declared.ports.ServedPort.{ServedPort}
 use Rattle.omaha_server.specs.declared.ports.ServedPorts.{ServedPorts}
 

@@ -8,7 +8,7 @@ use Rattle.http_desks.specs.Uses.{IsUse}
 use Rattle.http_ports.specs.Rounds.{all_calls}
 use Rattle.http_ports.specs.Traffic.{IsTime}
 use Rattle.http_ports.specs.declared.terms.Terms.{Terms}
-use Rattle.http_talks.specs.Ports.{HasTalked, Passage}
+use Rattle.http_sessions.specs.Ports.{HasTalked, Passage}
 use Rattle.kept_records.specs.declared.record.Record.{Record}
 use Rattle.mirror_ledger.specs.Asks.{Ask}
 use Rattle.publisher.specs.Sights.{Sight, fresh}

@@ -6,7 +6,7 @@ ghost use Rattle.systems.specs.NewPorts.{IsNew};
 use crate::watches::Sight;
 use access_logs::Places;
 use http_ports::Port;
-use http_talks::Connections;
+use http_sessions::Connections;
 use std::alloc::{AllocError, Global};
 use std::marker::Model;
 

@@ -3,7 +3,7 @@
 use crate::counter::Counter;
 use http_memory::Shelf;
 use http_ports::Terms;
-use http_talks::{Connections, serve_port};
+use http_sessions::{Connections, serve_port};
 use http_wire::Unwatched;
 use mio_ports::{EndSign, Listener, MioPort};
 use std::alloc::Global;

@@ -8,8 +8,7 @@ use crate::desk::{Echo, FILES};
 use crate::peers::{are_as_said, script_of};
 use http_memory::Script;
 use http_ports::{Port, run};
-use http_sessions::Buffers;
-use http_talks::{Talk, Talks};
+use http_sessions::{Buffers, Talk, Talks};
 use std::sync::Wait;
 
 // Serves the peers of a script; for how many memory ran out.

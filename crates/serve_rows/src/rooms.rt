@@ -7,7 +7,7 @@ use crate::turns::{Part, Turns};
 use http_desks::{Desk, Packages};
 use http_memory::{Peer, Script, Seat};
 use http_ports::{Port, Terms, WatchEach};
-use http_talks::{Connections, serve_port};
+use http_sessions::{Connections, serve_port};
 use http_wire::Failed;
 use std::alloc::{AllocError, Global};
 use std::fs::File;

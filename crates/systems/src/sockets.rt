@@ -7,7 +7,7 @@ use crate::system::{OpenError, System};
 use http_desks::{Desk, Packages};
 use http_devices::Folder;
 use http_ports::{Port, Terms, WatchEach};
-use http_talks::{Connections, serve_port};
+use http_sessions::{Connections, serve_port};
 use mio_ports::{EndSign, Listener, MioPort};
 use std::alloc::{AllocError, Global};
 use std::fs::{File, OpenOptions, Permissions};

@@ -3,12 +3,12 @@
 ghost use Rattle.std.specs.Prelude.{◌≡◌, All, IfOk, IsTrue, ℕ, map};
 ghost use Rattle.http_desks.specs.Uses.{IsUse};
 ghost use Rattle.http_ports.specs.Traffic.{IsTime, unused};
-ghost use Rattle.http_talks.specs.Ports.{HasTalked};
+ghost use Rattle.http_sessions.specs.Ports.{HasTalked};
 ghost use Rattle.systems.specs.NewPorts.{IsNew};
 
 use http_desks::Desk;
 use http_ports::{Port, Terms, WatchEach};
-use http_talks::Connections;
+use http_sessions::Connections;
 use std::alloc::{AllocError, Global};
 use std::fs::File;
 use std::io;

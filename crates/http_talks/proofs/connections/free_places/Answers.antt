@@ -1,8 +1,0 @@
-use Rattle.std.proofs.Common.{arith}
-use Rattle.http_talks.proofs.PartLemmas.{kept_at-push}
-use Rattle.http_talks.proofs.connections.free_places.Goals as goal
-
-pub loop-preserved : goal.loop-preserved
-loop-preserved g c =
-    let (many, none) = c.loop.invariant in
-    (omega (arith, many, c.in_ok-push.ensures.len), rw c.in_ok-push.ensures.items (kept_at-push c.loop.conns.items none))
