@@ -1,8 +1,13 @@
+pub mod BeginLemmas
+pub mod FieldLemmas
 pub mod LineLemmas
-pub mod PlaceLemmas
 pub mod LogLemmas
+mod PageLemmas
+pub mod PlaceLemmas
+pub mod PortLemmas
+mod RingLemmas
+mod RoundLemmas
 pub mod SeenLemmas
 pub mod TrackLemmas
-pub mod BeginLemmas
-pub mod PortLemmas
-pub mod FieldLemmas
+mod WholeLemmas
+mod WrittenLemmas

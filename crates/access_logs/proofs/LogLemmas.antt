@@ -2,7 +2,7 @@
 use Rattle.std.proofs.Common.{◌≡◌, ◌∙◌, ℕ, Bool, true, false, List, [], ◌∷◌, ◌++◌, length, refl, sym, subst, ap, if◌then◌else◌}
 use Rattle.std.specs.Prelude.{◌==◌, nat_lt}
 use Rattle.std.proofs.lemmas.Bool.{eq-eqb, ne_eqb}
-use Rattle.log_queues.specs.Queues.{Sending}
+use Rattle.access_logs.specs.Queues.{Sending}
 use Rattle.access_logs.specs.Logs.{Logged, LogsAll, LogsAt, LogsOne, pieces_at}
 use Rattle.access_logs.specs.Replies.{Piece, piece_if}
 

@@ -9,7 +9,7 @@ use Rattle.http_ports.specs.declared.event.Received.{Received}
 use Rattle.http_ports.specs.declared.event.Received.TheVariants as received
 use Rattle.http_ports.specs.declared.event.Sent.{Sent}
 use Rattle.http_ports.specs.declared.event.Sent.TheVariants as sent
-use Rattle.log_queues.specs.Queues.{Sending}
+use Rattle.access_logs.specs.Queues.{Sending}
 use Rattle.access_logs.specs.Replies.{Piece, begun, done_at, done_of, ended_pieces, going_of, piece_if, with_done, with_more}
 use Rattle.access_logs.specs.Sights.{Becomes, IsGoing, Sight, sight_of}
 use Rattle.access_logs.specs.Tracks.{Tracks}

@@ -3,7 +3,7 @@ use Rattle.std.proofs.Common.{◌≡◌, ◌≢◌, ◌∙◌, ◌++◌, ℕ, Li
 use Rattle.std.proofs.lemmas.Bool.Decides.{eqb_tells}
 use Rattle.rtrb.specs.Ring.{SameProducer}
 use Rattle.http_ports.specs.Loops.{kept_at}
-use Rattle.log_queues.specs.Queues.{Sending, SendingEnd}
+use Rattle.access_logs.specs.Queues.{Sending, SendingEnd}
 use Rattle.access_logs.specs.Logs.{LogsAt, pieces_at}
 use Rattle.access_logs.specs.Replies.{Piece}
 use Rattle.access_logs.specs.Sights.{Becomes, IsGoing, Sight}

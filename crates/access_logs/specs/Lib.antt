@@ -1,6 +1,10 @@
-pub mod Lines
-pub mod Replies
 pub mod Entries
+pub mod Facts
+pub mod Laws
+pub mod Lines
 pub mod Logs
+pub mod Pages
+pub mod Queues
+pub mod Replies
 pub mod Sights
 pub mod Tracks

@@ -1,7 +1,7 @@
 -- The lines of a port's log; this project's profile.
 use Rattle.std.specs.Prelude.{◌≡◌, ◌≢◌, ◌⊎◌, ◌++◌, ◌==◌, ℕ, Bool, List, [], ◌∷◌, if◌then◌else◌}
 use Rattle.http_ports.specs.Traffic.{Slot}
-use Rattle.log_queues.specs.Queues.{Loses, Sending, Sends, note_of}
+use Rattle.access_logs.specs.Queues.{Loses, Sending, Sends, note_of}
 use Rattle.access_logs.specs.Entries.{IsLineOf}
 use Rattle.access_logs.specs.Replies.{Piece, done_at}
 

@@ -3,7 +3,7 @@ use Rattle.std.specs.Prelude.{◌≡◌, ◌≤◌, ℕ, List, Some, length, vec
 use Rattle.rtrb.specs.Ring.{SameProducer}
 use Rattle.http_ports.specs.Loops.{kept_at}
 use Rattle.http_ports.specs.Traffic.{Slot, Traffic}
-use Rattle.log_queues.specs.Queues.{Sending}
+use Rattle.access_logs.specs.Queues.{Sending}
 use Rattle.access_logs.specs.Logs.{IsFresh, Logged, LogsAll, pieces_at}
 use Rattle.access_logs.specs.Replies.{begins_of, latest_begin}
 use Rattle.access_logs.specs.Sights.{IsGoing, Sight, sight_of}

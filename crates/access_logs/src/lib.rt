@@ -2,7 +2,7 @@
 //!
 //! `LoggedPort` is a port over another one of `http_ports`, whose replies it logs. A reply is what is sent from one
 //! timestamp at which a message may begin up to the next one, or to the connection's end. Once it is done, its line is
-//! sent to the log's writer by a `LineSender` of `log_queues`, or counted as lost: read `specs/Replies.antt`,
+//! sent to the log's writer by a `LineSender` of `access_logs`, or counted as lost: read `specs/Replies.antt`,
 //! `specs/Entries.antt` and `specs/Logs.antt`. The `Places` of its slots are made before, so that it begins without
 //! memory.
 //!
@@ -29,6 +29,7 @@ mod logged_port;
 mod message;
 mod places;
 mod port_log;
+pub mod queues;
 mod seen;
 mod times;
 
@@ -36,4 +37,7 @@ pub use crate::cut::{CutReply, LastReply};
 pub use crate::log::{AccessLog, ReplyLog};
 pub use crate::logged_port::LoggedPort;
 pub use crate::places::Places;
+pub use crate::queues::{
+    EndedSender, LineSender, Log, LogWriter, Page, Signal, WriterThread, Writing, open_log,
+};
 pub use crate::seen::Seen;

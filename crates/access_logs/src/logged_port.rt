@@ -5,9 +5,9 @@ ghost use Rattle.access_logs.specs.Logs.{IsFresh, IsLogOf};
 
 use crate::places::Places;
 use crate::port_log::PortLog;
+use crate::queues::{EndedSender, LineSender};
 use http_desks::Clock;
 use http_ports::{Event, Port, Received, Sent, Terms};
-use log_queues::{EndedSender, LineSender};
 use std::alloc::Global;
 use std::marker::Model;
 use std::net::IpAddr;

@@ -1,6 +1,6 @@
 ghost use Rattle.std.specs.Prelude.{◌≡◌, ◌<◌, ◌++◌, ◌||◌, [], ℕ, None, Some, vec_len};
 ghost use Rattle.rtrb.specs.Ring.{SameProducer};
-ghost use Rattle.log_queues.specs.Queues.{Sending};
+ghost use Rattle.access_logs.specs.Queues.{Sending};
 ghost use Rattle.access_logs.specs.Logs.{LogsAt, LogsOne};
 ghost use Rattle.access_logs.specs.Replies.{Piece, begun, piece_if, with_more};
 ghost use Rattle.access_logs.specs.Sights.{Becomes, IsSeenOf, Sight, no_sight};
@@ -8,8 +8,8 @@ ghost use Rattle.access_logs.specs.Tracks.{Tracks};
 
 use crate::lines::line_of;
 use crate::places::{Places, put, set};
+use crate::queues::LineSender;
 use crate::seen::Seen;
-use log_queues::LineSender;
 use std::alloc::Global;
 use std::net::IpAddr;
 

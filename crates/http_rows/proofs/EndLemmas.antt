@@ -2,7 +2,7 @@
 use Rattle.std.proofs.Common.{◌≡◌, ◌∙◌, List, [], ◌∷◌, sym, subst}
 use Rattle.std.specs.List.{AllZip}
 use Rattle.rtrb.specs.Ring.{SameProducer}
-use Rattle.log_queues.specs.Queues.{AreEnds, AreEndsOf, Ended, HaveEnded, ReceivingEnd, Sending, SendingEnd}
+use Rattle.access_logs.specs.Queues.{AreEnds, AreEndsOf, Ended, HaveEnded, ReceivingEnd, Sending, SendingEnd}
 
 -- an end that is twice of one ring is of it
 SameProducer-after :

@@ -2,10 +2,10 @@
 
 ghost use Rattle.std.specs.Prelude.{◌≡◌, ◌-◌, ◌∷◌, [], IfSome, length, map};
 ghost use Rattle.rtrb.specs.Ring.{SameProducer};
-ghost use Rattle.log_queues.specs.Queues.{HaveEnded, IsWhole};
+ghost use Rattle.access_logs.specs.Queues.{HaveEnded, IsWhole};
 
 use crate::writers::Paper;
-use log_queues::{EndedSender, LineSender, Page, Writing, open_log};
+use access_logs::{EndedSender, LineSender, Page, Writing, open_log};
 use std::alloc::Global;
 use std::io::Write;
 use std::snapshot::Snapshot;

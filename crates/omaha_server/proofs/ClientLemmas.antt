@@ -3,7 +3,7 @@ use Rattle.std.proofs.Common.{◌≡◌, ◌∙◌, ◌↔◌, ℕ, suc, ◌+◌
 use Rattle.std.proofs.Math.Seq.{get_or-append_seam}
 use Rattle.std.proofs.lemmas.List.{get_or_append_left, length-append}
 use Rattle.http_ports.specs.declared.terms.Terms.{Terms}
-use Rattle.log_queues.specs.Queues.{Sending}
+use Rattle.access_logs.specs.Queues.{Sending}
 use Rattle.omaha_server.specs.Logging.{those_of}
 use Rattle.omaha_server.specs.Opening.{client_terms}
 use Rattle.omaha_server.specs.declared.place.Place.{Place}

@@ -2,7 +2,7 @@
 use Rattle.std.proofs.Common.{◌≡◌, ◌∙◌, ◌<◌, ◌+◌, ◌&&◌, ℕ, Bool, true, false, List, ◌++◌, Option, Some, None, arith, if◌then◌else◌, is_some, length, not, option_to_list, refl, sym, subst, ap}
 use Rattle.std.proofs.lemmas.List.{length-append}
 use Rattle.http_ports.specs.Speech.{one_if}
-use Rattle.log_queues.specs.Queues.{Sending}
+use Rattle.access_logs.specs.Queues.{Sending}
 
 pub length-option : {A : Type 0} (option : Option A) → length (option_to_list option) ≡ one_if (is_some option)
 length-option None = refl

@@ -3,8 +3,8 @@ use Rattle.std.proofs.Common.{◌≡◌, ◌∙◌, ◌+◌, ◌-◌, ◌&&◌, 
 use Rattle.std.proofs.lemmas.List.{length-append}
 use Rattle.std.proofs.lemmas.Slice.Zip.{AllZip-long}
 use Rattle.http_ports.specs.Speech.{one_if}
-use Rattle.log_queues.specs.Queues.{Ended, HaveEnded, IsWhole, Sending}
-use Rattle.log_queues.specs.declared.page.Page.{Page}
+use Rattle.access_logs.specs.Queues.{Ended, HaveEnded, IsWhole, Sending}
+use Rattle.access_logs.specs.declared.queues.page.Page.{Page}
 use Rattle.rtrb.specs.Ring.{SameProducer}
 use Rattle.streams.specs.Streams.{Known}
 use Rattle.omaha_server.specs.Logging.{AreLogged, AreOpened, BeginWith, Both, IsFilled, file_of, is_dash, logs_here, unless}

@@ -21,7 +21,7 @@ use Rattle.catalogue.specs.declared.mirror.Mirror.{Mirror}
 use Rattle.service_desks.specs.Served.{IsWorked}
 use Rattle.service_desks.specs.States.{Publication, Store}
 use Rattle.systems.specs.Edges.{Edges}
-use Rattle.log_queues.specs.Queues.{Ended as SenderEnd, Sending}
+use Rattle.access_logs.specs.Queues.{Ended as SenderEnd, Sending}
 use Rattle.omaha_server.specs.Jobs.{IsClients, IsManned}
 use Rattle.omaha_server.specs.Logging.{AreLogged, HasSent, senders_of}
 use Rattle.omaha_server.specs.Opening.{AreClientTerms, IsOperatorsPort, client_terms}

@@ -7,7 +7,7 @@ use Rattle.std.proofs.lemmas.List.Elements.{All-head, All-tail}
 use Rattle.access_logs.specs.Logs.{IsLogOf}
 use Rattle.http_ports.specs.Traffic.{Slot}
 use Rattle.http_sessions.specs.Ports.{Passage}
-use Rattle.log_queues.specs.Queues.{Ended, Sending}
+use Rattle.access_logs.specs.Queues.{Ended, Sending}
 use Rattle.rtrb.specs.Ring.{SameProducer}
 use Rattle.mirror_ledger.specs.Asks.{Ask}
 use Rattle.mirror_ledger.specs.Tills.{WorksAs}

@@ -2,7 +2,7 @@
 use Rattle.std.specs.Prelude.{◌≡◌, ◌&&◌, ℕ, All, List, Option, length, map}
 use Rattle.std.specs.Option.{is_some}
 use Rattle.http_ports.specs.declared.terms.Terms.{Terms}
-use Rattle.log_queues.specs.Queues.{Sending}
+use Rattle.access_logs.specs.Queues.{Sending}
 use Rattle.publisher.specs.Sights.{Sight, fresh}
 use Rattle.omaha_server.specs.Opening.{AreClientTerms, IsOperatorsPort}
 use Rattle.omaha_server.specs.OperatorPorts.{has_operator, terms_left}

@@ -6,8 +6,8 @@ use Rattle.access_logs.specs.Logs.{IsLogOf}
 use Rattle.http_ports.specs.Speech.{one_if}
 use Rattle.http_ports.specs.Traffic.{Slot}
 use Rattle.http_sessions.specs.Ports.{Passage}
-use Rattle.log_queues.specs.Queues.{Ended, IsWhole, Sending}
-use Rattle.log_queues.specs.declared.page.Page.{Page}
+use Rattle.access_logs.specs.Queues.{Ended, IsWhole, Sending}
+use Rattle.access_logs.specs.declared.queues.page.Page.{Page}
 use Rattle.rtrb.specs.Ring.{SameProducer}
 use Rattle.streams.specs.Streams.{Known}
 use Rattle.omaha_server.specs.Passages.{Passages}

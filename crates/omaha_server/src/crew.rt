@@ -2,7 +2,7 @@
 
 ghost use Rattle.std.specs.Prelude.{◌≡◌, ◌++◌, ◌&&◌, All, IfOk, IfSome, if◌then◌else◌, length, map, option_map, option_to_list};
 ghost use Rattle.std.specs.Option.{is_some};
-ghost use Rattle.log_queues.specs.Pages.{IsUncut};
+ghost use Rattle.access_logs.specs.Pages.{IsUncut};
 ghost use Rattle.publisher.specs.Sights.{fresh};
 ghost use Rattle.omaha_server.specs.Jobs.{IsManned};
 ghost use Rattle.omaha_server.specs.Logging.{AreOpened, Both, FitOutlets, senders_of};

@@ -4,8 +4,8 @@ ghost use Rattle.std.specs.Prelude.{◌≡◌, ◌≤◌, ◌<◌, ◌+◌, ◌-
 ghost use Rattle.std.specs.Option.{is_some};
 ghost use Rattle.access_logs.specs.Logs.{IsFresh};
 ghost use Rattle.http_ports.specs.Speech.{one_if};
-ghost use Rattle.log_queues.specs.Pages.{IsUncut};
-ghost use Rattle.log_queues.specs.Queues.{HaveEnded};
+ghost use Rattle.access_logs.specs.Pages.{IsUncut};
+ghost use Rattle.access_logs.specs.Queues.{HaveEnded};
 ghost use Rattle.omaha_server.specs.Logging.{AreOpened, Both, FitOutlets, IsFilled, unless};
 ghost use Rattle.omaha_server.specs.declared.error.ServerError.TheVariants.{Thread};
 
@@ -13,7 +13,7 @@ use crate::error::ServerError;
 use crate::new_sender::NewSender;
 use crate::place::Place;
 use crate::setup::Setup;
-use log_queues::{EndedSender, LineSender, Page, WriterThread, Writing};
+use access_logs::{EndedSender, LineSender, Page, WriterThread, Writing};
 use std::alloc::{AllocError, Global};
 use std::fs::File;
 use std::sync::Wait;

@@ -3,7 +3,7 @@
 ghost use Rattle.std.specs.Prelude.{◌≡◌};
 ghost use Rattle.access_logs.specs.Logs.{IsFresh};
 
-use log_queues::LineSender;
+use access_logs::LineSender;
 use std::marker::Model;
 
 /// A sender to the log that has sent nothing; contracts see the sender.
@@ -14,7 +14,7 @@ pub(crate) struct NewSender {
 
 impl Model for NewSender {
     ghost use Rattle.access_logs.specs.Logs.{IsFresh};
-    ghost use Rattle.log_queues.specs.Queues.{Sending};
+    ghost use Rattle.access_logs.specs.Queues.{Sending};
 
     ghost Value = { Sending };
 

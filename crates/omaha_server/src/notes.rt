@@ -6,8 +6,8 @@ ghost use Rattle.http_desks.specs.Calls.{answer_in};
 ghost use Rattle.omaha_server.specs.Notes.{IsUnreported, crew_string, is_unsaid, note_line, note_of, served_string, serving_string};
 
 use crate::setup::Setup;
+use access_logs::LineSender;
 use http_desks::{Answer, DeskStatus, Off};
-use log_queues::LineSender;
 use std::alloc::{AllocError, Global};
 use std::sync::Wait;
 use std::{fmt, str};

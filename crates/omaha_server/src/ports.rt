@@ -1,6 +1,6 @@
 // The ports of a server that was served.
 
-use log_queues::EndedSender;
+use access_logs::EndedSender;
 use streams::Trace;
 
 /// A port that was served to its end.

@@ -8,11 +8,10 @@ ghost use Rattle.access_logs.specs.Logs.{IsFresh};
 use crate::desk::{CLOCK, Echo, FILES};
 use crate::logs::{lines_of, open_lines};
 use crate::peers::script_of;
-use access_logs::{LoggedPort, Places};
+use access_logs::{EndedSender, LineSender, LoggedPort, Places};
 use http_memory::Script;
 use http_ports::run;
 use http_sessions::{Buffers, Talk, Talks};
-use log_queues::{EndedSender, LineSender};
 use std::alloc::Global;
 use std::sync::Wait;
 

@@ -3,7 +3,7 @@
 ghost use Rattle.std.specs.Prelude.{◌≡◌, IfSome};
 ghost use Rattle.access_logs.specs.Logs.{IsFresh};
 
-use log_queues::{EndedSender, LineSender, LogWriter, Page, open_log};
+use access_logs::{EndedSender, LineSender, LogWriter, Page, open_log};
 use std::alloc::Global;
 
 // How many bytes of lines there is room for.

@@ -1,6 +1,6 @@
 use Rattle.std.proofs.Common.{rules, ◌≡◌, ◌∙◌, ◌-◌, ℕ, ap, length, map, subst, subst₂}
 use Rattle.streams.specs.Streams.{Known}
-use Rattle.log_queues.specs.Queues.{IsWhole}
+use Rattle.access_logs.specs.Queues.{IsWhole}
 use Rattle.http_rows.proofs.queue_tests.write_beside.Goals as goal
 
 pub returns : goal.returns

@@ -1,5 +1,5 @@
 use Rattle.std.proofs.Common.{rules, ◌≡◌, [], ◌∷◌, sym, subst}
-use Rattle.log_queues.specs.Queues.{AreEndsOf}
+use Rattle.access_logs.specs.Queues.{AreEndsOf}
 use Rattle.http_rows.proofs.EndLemmas.{first-ends}
 use Rattle.http_rows.proofs.queue_tests.writes_rest.Goals as goal
 

@@ -1,6 +1,6 @@
 use Rattle.std.proofs.Common.{rules, All, Some}
 use Rattle.std.proofs.lemmas.List.Elements.{All-pop}
-use Rattle.log_queues.specs.Queues.{IsOpened}
+use Rattle.access_logs.specs.Queues.{IsOpened}
 use Rattle.port_rows.proofs.logs.open_lines.Goals as goal
 
 pub returns : goal.returns

@@ -1,6 +1,6 @@
 use Rattle.std.proofs.Common.{◌≡◌, ◌∙◌, [], Option, Some, None, refl, subst, sym}
 use Rattle.http_ports.specs.declared.terms.Terms.{Terms}
-use Rattle.log_queues.specs.Queues.{Sending}
+use Rattle.access_logs.specs.Queues.{Sending}
 use Rattle.operator_pages.specs.Counts.{no_counts}
 use Rattle.service_desks.specs.States.{publication}
 use Rattle.omaha_server.specs.Logging.{HasSent}

@@ -1,5 +1,0 @@
-mod PageLemmas
-mod RingLemmas
-mod RoundLemmas
-mod WholeLemmas
-mod WrittenLemmas

@@ -1,4 +1,0 @@
-pub mod Facts
-pub mod Queues
-pub mod Pages
-pub mod Laws
