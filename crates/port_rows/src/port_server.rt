@@ -5,11 +5,11 @@ use http_memory::Shelf;
 use http_ports::Terms;
 use http_sessions::{Connections, serve_port};
 use http_wire::Unwatched;
-use mio_ports::{EndSign, Listener, MioPort};
 use std::alloc::Global;
 use std::net::{Net, TcpListener};
 use std::sync::{Arc, Wait};
 use std::time::Clock;
+use systems::{EndSign, Listener, MioPort};
 
 // No package.
 const EMPTY: Shelf<'static> = Shelf { files: &[] };

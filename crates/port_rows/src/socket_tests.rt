@@ -9,13 +9,13 @@ use crate::logs::{lines_of, open_lines};
 use access_logs::{LoggedPort, Places};
 use http_ports::{Terms, run};
 use http_sessions::{Buffers, Talk, Talks};
-use mio_ports::{EndSign, Listener, MioPort};
 use std::alloc::Global;
 use std::io::{Read, Write};
 use std::net::{Net, Shutdown, TcpListener, TcpStream};
 use std::sync::{Arc, Wait};
 use std::test::Fail;
 use std::time::Clock;
+use systems::{EndSign, Listener, MioPort};
 
 const CLIENTS: &str = "\
 +|

@@ -1,3 +1,4 @@
 pub mod Edges
 pub mod NewPorts
+pub mod Polled
 pub mod Sockets

@@ -2,7 +2,7 @@
 use Rattle.std.specs.Prelude.{◌≡◌, ◌⊎◌, ℕ, true, IfSome, List, Option}
 use Rattle.http_desks.specs.Downloads.{Reads}
 use Rattle.http_devices.specs.Names.{is_file_name}
-use Rattle.mio_ports.specs.declared.port.MioPort.{MioPort}
+use Rattle.systems.specs.declared.mio_ports.port.MioPort.{MioPort}
 use Rattle.http_ports.specs.Books.{accepted_in, slots_after}
 use Rattle.systems.specs.NewPorts.{IsNew}
 

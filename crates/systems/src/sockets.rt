@@ -3,12 +3,12 @@
 ghost use Rattle.std.specs.Prelude.{◌≡◌, All, IfOk, map};
 ghost use Rattle.systems.specs.Sockets.{IsNewSocketPort};
 
+use crate::mio_ports::{EndSign, Listener, MioPort};
 use crate::system::{OpenError, System};
 use http_desks::{Desk, Packages};
 use http_devices::Folder;
 use http_ports::{Port, Terms, WatchEach};
 use http_sessions::{Connections, serve_port};
-use mio_ports::{EndSign, Listener, MioPort};
 use std::alloc::{AllocError, Global};
 use std::fs::{File, OpenOptions, Permissions};
 use std::io;

@@ -1,5 +1,0 @@
-use Rattle.std.proofs.Common.{◌≡◌}
-use Rattle.mio_ports.proofs.port.MioPort.take_ready.Given as goal
-
-abbrev pub invariant-loop : goal.invariant-loop
-invariant-loop g l = (l.self.book ≡ l.initial.self.book) × (l.self.terms ≡ l.initial.self.terms)

@@ -1,0 +1,179 @@
+// The port over sockets.
+
+ghost use Rattle.std.specs.Prelude.{◌≡◌};
+
+use crate::mio_ports::passing::{note_read, note_write, read_stream, write_stream};
+use crate::mio_ports::port::{EVENTS, LISTENER, MioPort};
+use http_desks::Clock as _;
+use http_devices::SystemClock;
+use http_ports::{Change, Event, Last, Port, Received, Sent, Terms};
+use std::net::IpAddr;
+use std::sync::Wait;
+use std::time::{Clock, Duration};
+
+impl<R: Wait + Clock> MioPort<'_, R> {
+    // Notes the time: once a second each connection is to be looked at, and the listener too if it failed.
+    fn note_time(&mut self)
+        ensures book { self.new.book ≡ self.old.book }
+        ensures terms { self.new.terms ≡ self.old.terms }
+    {
+        let Ok(passed) = self.start.elapsed(self.rt) else {
+            return;
+        };
+        let now = passed.as_secs();
+        if now != self.times.now {
+            self.times.now = now;
+            self.is_due = true;
+            self.door.retry();
+        }
+    }
+
+    // How many milliseconds the sockets are waited for: none if there is something to do without them, and few if the
+    // port is to end, or ends once no connection lingers.
+    fn pause(&self) -> u64 {
+        let accepts = self.may_accept() && self.free.len() > 0;
+        let lingers = !self.lingering.is_empty() && self.accepted == self.terms.limit;
+        if accepts || self.ready.len() > 0 {
+            0
+        } else if self.door.is_ending || lingers {
+            10
+        } else {
+            1000
+        }
+    }
+
+    // Looks whether the port is asked to end: then each connection is to be looked at, and its listener may be let go.
+    fn note_sign(&mut self)
+        ensures book { self.new.book ≡ self.old.book }
+        ensures terms { self.new.terms ≡ self.old.terms }
+    {
+        self.door.look();
+        self.is_due |= self.door.is_ending;
+    }
+
+    // Waits for the sockets, and gives each slot that is ready its turn.
+    fn wait_for_sockets(&mut self)
+        ensures book { self.new.book ≡ self.old.book }
+        ensures terms { self.new.terms ≡ self.old.terms }
+    {
+        let pause = Duration::from_millis(self.pause());
+        let _ = self.poll.poll(&mut self.events, Some(pause));
+        let mut room = EVENTS;
+        for event in self.events.iter() {
+            room = room.saturating_sub(1);
+            let token = usize::from(event.token());
+            if token == LISTENER {
+                self.door.knock();
+            } else {
+                self.ready.push(token);
+                self.drained.reported(token, event.is_read_closed());
+            }
+        }
+        self.turns = self.ready.len();
+        self.note_time();
+        self.note_sign();
+        // with no room left the system may have more to report, of a connection that would be late
+        if self.is_due && room > 0 {
+            self.is_due = false;
+            self.looked = 0;
+        }
+        let now = self.times.now;
+        self.lingering.drop_inputs(now);
+    }
+}
+
+impl<R: Wait + Clock> Port for MioPort<'_, R> {
+    ghost use Rattle.std.specs.Prelude.{◌≡◌, ◌⊎◌, None, true};
+    ghost use Rattle.http_ports.specs.Books.{accepted_in, slots_after};
+
+    type Own = ();
+
+    ghost slots = { λ port. slots_after port.book.moves };
+
+    ghost terms = { λ port. port.terms };
+
+    // it never stops
+    ghost stopped = { λ _. None };
+
+    // it has nothing of its own
+    ghost own = { λ _. tt };
+
+    ghost accepted = { λ port. accepted_in port.book.moves };
+
+    // so many connections were accepted, or it is to end
+    ghost is_over = { λ port. (accepted_in port.book.moves ≡ port.terms.limit) ⊎ (port.door.is_ending ≡ true) };
+
+    fn peer(&self, slot: usize) -> Option<IpAddr> {
+        *self.peers.get(slot)?
+    }
+
+    fn terms(&self) -> Terms {
+        self.terms
+    }
+
+    fn has_accepted_all(&self) -> bool {
+        self.accepted == self.terms.limit
+    }
+
+    fn wait(&mut self) -> Event {
+        for _ in self.rt.forever() {
+            if let Some(event) = self.report() {
+                return event;
+            }
+            if self.is_done() {
+                return Event::Done;
+            }
+            self.wait_for_sockets();
+        }
+        unreachable!()
+    }
+
+    fn timestamp(&mut self, slot: usize, waiting: Option<&[u8]>) -> u64 {
+        let seconds = SystemClock::new(self.rt).now();
+        self.book.note_time(slot, seconds, waiting);
+        seconds
+    }
+
+    fn read(&mut self, slot: usize, into: &mut [u8]) -> Received {
+        let received = if self.drained.has(slot) {
+            Received::Nothing
+        } else {
+            read_stream(self.book.stream(slot), into)
+        };
+        note_read(&mut self.book, slot, into, received);
+        if let Received::Bytes(count) = received {
+            self.times.read(slot);
+            if count < into.len() {
+                self.drained.read(slot);
+            }
+        }
+        received
+    }
+
+    fn write(&mut self, slot: usize, bytes: &[u8]) -> Sent {
+        let sent = write_stream(self.book.stream(slot), bytes);
+        note_write(&mut self.book, slot, bytes, sent);
+        match sent {
+            Sent::Bytes(_) => self.times.written(slot),
+            Sent::Nothing => self.times.held(slot),
+            Sent::Failure => {}
+        }
+        sent
+    }
+
+    fn again(&mut self, slot: usize) {
+        self.book.change(slot, Change::Marked(Last::Yields), false);
+        self.ready.push(slot);
+    }
+
+    fn close(&mut self, slot: usize) {
+        if let Some(stream) = self.book.close(slot) {
+            let now = self.times.now;
+            self.lingering.close(stream, now);
+        }
+        if let Some(address) = self.peers.get_mut(slot) {
+            *address = None;
+        }
+        self.free.push(slot);
+    }
+}
