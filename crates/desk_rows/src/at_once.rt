@@ -4,7 +4,7 @@ use crate::together::Meeting;
 use http_ports::Port;
 use kept_records::Unkept;
 use omaha_server::{Place, serve};
-use services::{KeptService, Service, builtin_service};
+use service_desks::{KeptService, Service, builtin_service};
 use std::alloc::{AllocError, Global};
 use std::io;
 use std::sync::Wait;

@@ -22,7 +22,7 @@ use Rattle.omaha_json.specs.declared.reply.CheckReply.TheVariants as check
 use Rattle.omaha_json.specs.declared.reply.Reply.{Reply}
 use Rattle.omaha_json.specs.declared.request.AppAsk.{AppAsk}
 use Rattle.omaha_json.specs.declared.request.Request.{Request}
-use Rattle.services.specs.Services.{service_if}
+use Rattle.service_desks.specs.Services.{service_if}
 use Rattle.payload_graph.specs.declared.payload.Payload.{Payload}
 use Rattle.catalogue.specs.declared.content.App.{App}
 use Rattle.catalogue.specs.declared.content.Diff.{Diff}

@@ -7,7 +7,7 @@ use Rattle.http_desks.specs.Calls.{Call, Leads}
 use Rattle.http_desks.specs.declared.desk.DeskStatus.{DeskStatus}
 use Rattle.mirror_ledger.specs.Asks.{Ask}
 use Rattle.omaha_json.specs.declared.request.Request.{Request}
-use Rattle.services.specs.Services.{service_of}
+use Rattle.service_desks.specs.Services.{service_of}
 use Rattle.profile_toml.specs.Reading.{profile_of_bytes}
 use Rattle.catalogue.specs.declared.mirror.Mirror.{Mirror}
 use Rattle.service_desks.specs.Operators.{IsCall, IsDump}

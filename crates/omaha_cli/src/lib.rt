@@ -22,6 +22,6 @@ pub use omaha_commands::{Failure, HistoryFault, read_service, report_on};
 pub use omaha_histories::{ReportedRecords, ReportingStores};
 pub use omaha_server::{Place, ServedPort, ServedPorts, ServerError};
 pub use package_files::Folders;
-pub use services::{Service, builtin_service};
+pub use service_desks::{Service, builtin_service};
 pub use systems::{EndSigns, LogFile, Sockets, System};
 pub use update_client::Connector;

@@ -14,7 +14,7 @@ use omaha_arguments::{Serve, VERSION};
 use omaha_commands::Failure;
 use omaha_histories::open_beginning;
 use omaha_server::{Place, ServerError, serve};
-use services::KeptService;
+use service_desks::KeptService;
 use std::alloc::{AllocError, Global};
 use std::sync::Wait;
 use std::sync::atomic::{AtomicBool, Ordering};

@@ -4,7 +4,7 @@ use Rattle.std.specs.Io.KnownBytes.{Appends}
 use Rattle.streams.specs.Streams.{Known}
 use Rattle.streams.specs.Writing.{Breaks}
 use Rattle.editions.specs.Editions.{content_of}
-use Rattle.services.specs.declared.service.Service.{Service}
+use Rattle.service_desks.specs.declared.services.service.Service.{Service}
 use Rattle.package_files.specs.Findings.{AreFindings}
 use Rattle.package_files.specs.declared.finding.Finding.{Finding}
 use Rattle.package_files.specs.FindingLines.{findings_string}

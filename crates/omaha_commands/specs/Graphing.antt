@@ -12,7 +12,7 @@ use Rattle.reviews.specs.Scenes.{picture_of}
 use Rattle.reviews.specs.Svg.{svg_string}
 use Rattle.reviews.specs.declared.pictures.picture.Picture.{Picture}
 use Rattle.reviews.specs.declared.pictures.view.View.{View}
-use Rattle.services.specs.declared.service.Service.{Service}
+use Rattle.service_desks.specs.declared.services.service.Service.{Service}
 use Rattle.omaha_commands.specs.Profiles.{Files, IsServed}
 use Rattle.omaha_commands.specs.Reports.{Prints}
 use Rattle.omaha_commands.specs.Streams.{Streams}

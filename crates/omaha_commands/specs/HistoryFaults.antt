@@ -4,7 +4,7 @@ use Rattle.kept_records.specs.declared.fault.AppendFault.TheVariants as append
 use Rattle.kept_records.specs.declared.fault.Cause.{Cause}
 use Rattle.kept_records.specs.declared.fault.Cause.TheVariants as cause
 use Rattle.kept_records.specs.declared.fault.OpenFault.TheVariants as open_fault
-use Rattle.services.specs.FaultStrings.{fault_string as record_fault_text}
+use Rattle.service_desks.specs.FaultStrings.{fault_string as record_fault_text}
 use Rattle.omaha_commands.specs.declared.history_fault.HistoryFault.{HistoryFault}
 use Rattle.omaha_commands.specs.declared.history_fault.HistoryFault.TheVariants as fault
 

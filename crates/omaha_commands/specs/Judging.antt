@@ -3,7 +3,7 @@ use Rattle.std.specs.Prelude.{◌≡◌, ◌⊎◌, ⊤, ℕ, Bool, true, false,
 use Rattle.streams.specs.Reading.{IsLonger, IsWhole}
 use Rattle.streams.specs.Streams.{Known}
 use Rattle.catalogue.specs.Histories.{History}
-use Rattle.services.specs.declared.service.Service.{Service}
+use Rattle.service_desks.specs.declared.services.service.Service.{Service}
 use Rattle.profile_toml.specs.Reading.{script_of_bytes}
 use Rattle.package_files.specs.Storages.{Storage}
 use Rattle.omaha_arguments.specs.declared.command.Publication.{Publication}

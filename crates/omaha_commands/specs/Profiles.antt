@@ -2,9 +2,9 @@
 use Rattle.std.specs.Prelude.{◌≡◌, ◌⊎◌, ⊤, ℕ, true, List, Option, Some, None, Result, Ok, Err}
 use Rattle.streams.specs.Reading.{IsLonger, IsWhole}
 use Rattle.streams.specs.Streams.{Known}
-use Rattle.services.specs.Builtin.{builtin_service}
-use Rattle.services.specs.Services.{Profile, service_of}
-use Rattle.services.specs.declared.service.Service.{Service}
+use Rattle.service_desks.specs.Builtin.{builtin_service}
+use Rattle.service_desks.specs.Services.{Profile, service_of}
+use Rattle.service_desks.specs.declared.services.service.Service.{Service}
 use Rattle.profile_toml.specs.Reading.{profile_of_bytes}
 use Rattle.profile_toml.specs.declared.fault.ProfileFault.{ProfileFault}
 use Rattle.catalogue.specs.declared.fault.Refused.{Refused}

@@ -9,7 +9,7 @@ use Rattle.catalogue.specs.Histories.{History}
 use Rattle.reviews.specs.Reviews.{AreReviews}
 use Rattle.reviews.specs.Warnings.{warnings_string}
 use Rattle.reviews.specs.declared.review.TrackReview.{TrackReview}
-use Rattle.services.specs.declared.service.Service.{Service}
+use Rattle.service_desks.specs.declared.services.service.Service.{Service}
 use Rattle.reports.specs.Certificates.{Certifies, Verifies}
 use Rattle.reports.specs.Summaries.{summary_of}
 use Rattle.price_cert.specs.declared.certificates.fault.Fault.{Fault}

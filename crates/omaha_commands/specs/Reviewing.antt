@@ -7,7 +7,7 @@ use Rattle.catalogue.specs.Histories.{History}
 use Rattle.editions.specs.Editions.{Continues, content_of}
 use Rattle.editions.specs.declared.fault.NextError.{NextError}
 use Rattle.editions.specs.declared.fault.NextError.TheVariants as next
-use Rattle.services.specs.declared.service.Service.{Service}
+use Rattle.service_desks.specs.declared.services.service.Service.{Service}
 use Rattle.reviews.specs.ChangeLines.{change_string, newly_stuck_total}
 use Rattle.reviews.specs.ChangeObjects.{change_objects}
 use Rattle.reviews.specs.Changes.{changes_of}

@@ -13,7 +13,7 @@ use crate::profile::open_profile;
 use omaha_arguments::Comparison;
 use package_files::{Finding, Folders, findings_string};
 use reports::summary;
-use services::Service;
+use service_desks::Service;
 use std::alloc::{AllocError, Global};
 use std::thread::Threads;
 use streams::{Disk, WriteWhole};

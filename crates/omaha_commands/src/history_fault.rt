@@ -4,7 +4,7 @@ ghost use Rattle.std.specs.Prelude.{◌≡◌, Some};
 ghost use Rattle.omaha_commands.specs.HistoryFaults.{cause_string, history_fault_string};
 
 use kept_records::{AppendFault, Cause, OpenFault};
-use services::RecordFault;
+use service_desks::RecordFault;
 use std::error::Error;
 use std::fmt;
 

@@ -18,7 +18,7 @@ use catalogue::Batch;
 use editions::Edition;
 use omaha_arguments::Publication;
 use package_files::Folders;
-use services::Service;
+use service_desks::Service;
 use std::alloc::{AllocError, Global};
 use std::thread::Threads;
 use streams::{Disk, ReadWhole, WriteWhole};

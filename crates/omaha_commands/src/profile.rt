@@ -6,7 +6,7 @@ ghost use Rattle.streams.specs.Reading.{IsWhole};
 
 use crate::failure::Failure;
 use profile_toml::{laws, read_profile};
-use services::{Service, builtin_service, make_service};
+use service_desks::{Service, builtin_service, make_service};
 use std::alloc::Global;
 use std::thread::Threads;
 use streams::{Disk, ReadFailure};

@@ -16,7 +16,7 @@ use editions::Edition;
 use omaha_arguments::{Question, Report};
 use reports::{certify, summary, verify};
 use reviews::{review_catalogue, write_warnings};
-use services::Service;
+use service_desks::Service;
 use std::alloc::{AllocError, Global};
 use std::thread::Threads;
 use streams::{Disk, ReadFailure, WriteWhole};

@@ -11,7 +11,7 @@ use Rattle.restarts.specs.Exporting.{IsExport}
 use Rattle.restarts.specs.Listing.{listing}
 use Rattle.restarts.specs.Numbering.{AreUpTo, editions_in}
 use Rattle.restarts.specs.Restarting.{LeadTo}
-use Rattle.services.specs.declared.service.Service.{Service}
+use Rattle.service_desks.specs.declared.services.service.Service.{Service}
 use Rattle.streams.specs.Reading.{IsWhole}
 use Rattle.omaha_commands.specs.Profiles.{Files, IsServed, max_profile}
 use Rattle.omaha_commands.specs.Reports.{Prints}

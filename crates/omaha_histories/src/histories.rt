@@ -12,7 +12,7 @@ use kept_records::{AppendFault, Kind, OpenFault, ReadFault, Record, Records, Sto
 use omaha_arguments::Serve;
 use omaha_commands::{Failure, HistoryFault, open_service, read_named, service_in};
 use restarts::{RestoreError, Restored, restore};
-use services::{KeptService, Mirrors, Service};
+use service_desks::{KeptService, Mirrors, Service};
 use std::thread::Threads;
 use streams::{Disk, ReadFailure};
 use values::Text;

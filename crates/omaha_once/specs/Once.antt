@@ -6,7 +6,7 @@ use Rattle.streams.specs.Streams.{Known}
 use Rattle.streams.specs.Writing.{Breaks}
 use Rattle.omaha_json.specs.RequestReading.{request_of_bytes}
 use Rattle.omaha_json.specs.declared.fault.RequestFault.{RequestFault}
-use Rattle.services.specs.declared.service.Service.{Service}
+use Rattle.service_desks.specs.declared.services.service.Service.{Service}
 use Rattle.omaha_arguments.specs.declared.command.Once.{Once}
 use Rattle.omaha_commands.specs.Profiles.{Files, IsServed}
 use Rattle.omaha_commands.specs.Streams.{Streams}

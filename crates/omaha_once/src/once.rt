@@ -7,7 +7,7 @@ use crate::answering::answer;
 use crate::error::AnswerError;
 use omaha_arguments::Once;
 use omaha_commands::{Failure, open_service};
-use services::Service;
+use service_desks::Service;
 use std::sync::Wait;
 use std::thread::Threads;
 use streams::{Disk, ReadWhole, WriteWhole};

@@ -33,7 +33,7 @@ use Rattle.omaha_server.specs.Serving.{AreServed, AreTotals, IsOperated, IsReady
 use Rattle.omaha_server.specs.Overviews.{Overview, overview, overview_at}
 use Rattle.operator_pages.specs.declared.counts.Counts.{Counts}
 use Rattle.operator_pages.specs.declared.publishes.Publish.{Publish}
-use Rattle.services.specs.Totals.{names_of, totals_string}
+use Rattle.service_desks.specs.Totals.{names_of, totals_string}
 use Rattle.omaha_server.specs.declared.clients.Clients.{Clients}
 use Rattle.omaha_server.specs.declared.clients.Visited.{Visited}
 use Rattle.omaha_server.specs.declared.error.ServerError.{ServerError}
@@ -45,7 +45,7 @@ use Rattle.omaha_server.specs.declared.place.Place.{Place}
 use Rattle.omaha_server.specs.declared.ports.ServedPort.{ServedPort}
 use Rattle.omaha_server.specs.declared.running.Ended.{Ended}
 use Rattle.omaha_server.specs.declared.running.Run.{Run}
-use Rattle.services.specs.declared.service.Service.{Service}
+use Rattle.service_desks.specs.declared.services.service.Service.{Service}
 use Rattle.omaha_server.specs.declared.setup.Served.{Served}
 use Rattle.omaha_server.specs.declared.setup.Setup.{Setup}
 use Rattle.streams.specs.Streams.{Known}

@@ -15,7 +15,7 @@ use Rattle.systems.specs.Edges.{Edges}
 use Rattle.omaha_server.specs.Logging.{log_at, those_of}
 use Rattle.omaha_server.specs.Passages.{HaveAcceptedAll, Passages, passages_of}
 use Rattle.omaha_server.specs.Serving.{AreTotals, IsOpen, IsReady}
-use Rattle.services.specs.Totals.{totals_string}
+use Rattle.service_desks.specs.Totals.{totals_string}
 use Rattle.omaha_server.specs.declared.error.ServerError.{ServerError}
 use Rattle.omaha_server.specs.declared.error.ServerError.TheVariants as server
 use Rattle.omaha_server.specs.declared.place.Place.{Place}
@@ -24,7 +24,7 @@ use Rattle.omaha_server.specs.declared.operating.Operated.{Operated}
 use Rattle.omaha_server.specs.declared.running.Ended.{Ended}
 use Rattle.omaha_server.specs.declared.running.Run.{Run}
 use Rattle.omaha_server.specs.declared.setup.Served.{Served}
-use Rattle.services.specs.declared.service.Service.{Service}
+use Rattle.service_desks.specs.declared.services.service.Service.{Service}
 
 -- how a server ends whose jobs came to nothing
 abbrev pub run_failure : RunError → ServerError

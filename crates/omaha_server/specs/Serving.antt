@@ -29,11 +29,11 @@ use Rattle.omaha_server.specs.Passages.{HaveAcceptedAll, Passages}
 use Rattle.omaha_server.specs.Showing.{ShowsPage, ShowsStatus}
 use Rattle.omaha_server.specs.Overviews.{IsUnmoved, Overview, counts_after, has_published, overview_at, publishes_after}
 use Rattle.omaha_server.specs.Stopping.{IsEnding}
-use Rattle.services.specs.Totals.{names_of, totals_string}
+use Rattle.service_desks.specs.Totals.{names_of, totals_string}
 use Rattle.omaha_server.specs.declared.error.ServerError.{ServerError}
 use Rattle.omaha_server.specs.declared.error.ServerError.TheVariants as server
 use Rattle.omaha_server.specs.declared.place.Place.{Place}
-use Rattle.services.specs.declared.service.Service.{Service}
+use Rattle.service_desks.specs.declared.services.service.Service.{Service}
 
 -- a port of these terms was served to its end by a desk of this path and type, with the packages of the place's folder:
 -- each connection that it accepted has ended

@@ -25,7 +25,7 @@ use http_ports::Port;
 use kept_records::Records;
 use mirror_ledger::run_with_tills;
 use publisher::View;
-use services::Mirrors;
+use service_desks::Mirrors;
 use std::sync::Wait;
 use std::thread;
 use std::thread::{Scope, Threads};

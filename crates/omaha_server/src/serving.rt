@@ -32,7 +32,7 @@ use http_ports::Port;
 use kept_records::Records;
 use package_files::{Lacking, look_for_apps};
 use publisher::{Press, PublishError, View, open_edition};
-use services::{KeptService, Mirrors, Service, names_of, totals_string};
+use service_desks::{KeptService, Mirrors, Service, names_of, totals_string};
 use std::alloc::Global;
 use std::fs::File;
 use std::sync::{Mutex, Wait};

@@ -12,8 +12,8 @@ use Rattle.mirror_ledger.specs.Raising.{RaisesTo}
 use Rattle.profile_toml.specs.Reading.{profile_of_bytes, script_of_bytes}
 use Rattle.catalogue.specs.declared.mirror.Mirror.{Mirror}
 use Rattle.service_desks.specs.Raises.{Replays, raise_of}
-use Rattle.services.specs.declared.record_fault.RecordFault.{RecordFault}
-use Rattle.services.specs.declared.record_fault.RecordFault.TheVariants as fault
+use Rattle.service_desks.specs.declared.services.record_fault.RecordFault.{RecordFault}
+use Rattle.service_desks.specs.declared.services.record_fault.RecordFault.TheVariants as fault
 use Rattle.restarts.specs.declared.fault.RestoreError.{RestoreError}
 use Rattle.restarts.specs.declared.fault.RestoreError.TheVariants as restore
 

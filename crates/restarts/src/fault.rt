@@ -1,6 +1,6 @@
 // Why records lead to nothing.
 
-use services::RecordFault;
+use service_desks::RecordFault;
 use std::alloc::AllocError;
 
 /// Why records lead to nothing.

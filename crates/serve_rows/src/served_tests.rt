@@ -4,7 +4,7 @@ use crate::rooms::Rooms;
 use http_memory::{Peer, Script};
 use kept_records::Unkept;
 use omaha_server::{Place, ServedPort, ServedPorts, serve};
-use services::{KeptService, builtin_service};
+use service_desks::{KeptService, builtin_service};
 use std::alloc::{AllocError, Global};
 use std::io;
 use std::sync::Wait;

@@ -1,5 +1,6 @@
 mod AnswerLemmas
 mod AskLemmas
+mod BuiltinLemmas
 pub mod DueLemmas
 mod FollowLemmas
 mod KeptLemmas
@@ -7,3 +8,5 @@ mod MirrorLemmas
 mod OrderLemmas
 mod PackageLemmas
 mod RaiseLemmas
+mod ServiceMirrorLemmas
+mod TotalLemmas

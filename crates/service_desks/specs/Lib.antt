@@ -1,8 +1,10 @@
 pub mod Answering
 pub mod Asking
 pub mod Attempts
+pub mod Builtin
 pub mod Counting
 pub mod Entries
+pub mod FaultStrings
 pub mod Following
 pub mod Keeping
 pub mod Kept
@@ -12,5 +14,7 @@ pub mod Raises
 pub mod Replies
 pub mod Scripts
 pub mod Served
+pub mod Services
 pub mod States
+pub mod Totals
 pub mod Workers

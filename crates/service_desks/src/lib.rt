@@ -28,6 +28,7 @@ mod packages;
 mod raises;
 mod replying;
 mod scripts;
+mod services;
 mod update_checks;
 mod worker;
 
@@ -36,5 +37,9 @@ pub use crate::held_view::HeldView;
 pub use crate::operator::Operator;
 pub use crate::packages::find_package;
 pub use crate::raises::replay_raise;
+pub use crate::services::{
+    KeptService, Mirrors, RecordFault, Service, builtin_service, make_service, names_of,
+    totals_string,
+};
 pub use crate::update_checks::reply_to;
 pub use crate::worker::Worker;

@@ -3,7 +3,7 @@ use Rattle.catalogue.specs.Histories.{History}
 use Rattle.omaha_server.specs.Passages.{passages_of}
 use Rattle.omaha_server.specs.Runs.{HasServed, PrintsLines}
 use Rattle.omaha_server.specs.Serving.{begun}
-use Rattle.services.specs.Totals.{names_of}
+use Rattle.service_desks.specs.Totals.{names_of}
 use Rattle.omaha_server.proofs.RunLemmas.{Serves-printed, Serves-unprinted}
 use Rattle.omaha_server.proofs.serving.serve_found.Goals as goal
 

@@ -1,3 +1,0 @@
-mod BuiltinLemmas
-mod MirrorLemmas
-mod TotalLemmas

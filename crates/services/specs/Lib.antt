@@ -1,4 +1,0 @@
-pub mod Builtin
-pub mod FaultStrings
-pub mod Services
-pub mod Totals
