@@ -1,6 +1,6 @@
 -- What is opened at a path of etcd.
 use Rattle.std.proofs.Common.{◌≡◌, ◌∙◌, ℕ, List, [], inl, inr, refl, length, ap, subst}
-use Rattle.etcd_paths.specs.Paths.{Parts, addresses_in}
+use Rattle.etcd_records.specs.Paths.{Parts, addresses_in}
 use Rattle.kept_records.specs.declared.fault.Cause.TheVariants.{Memory}
 use Rattle.kept_records.specs.declared.fault.OpenFault.{OpenFault}
 use Rattle.kept_records.specs.declared.fault.OpenFault.TheVariants.{Failed}

@@ -1,7 +1,7 @@
 -- Which records a path opens; this project's profile.
 use Rattle.std.specs.Prelude.{◌≡◌, ℕ, ◌*◌, min, max, List, length, Option, None, Some, Result, Ok, Err, true, ⊤}
-use Rattle.etcd_paths.specs.Paths.{Parts, addresses_in}
-use Rattle.etcd_paths.specs.declared.fault.EtcdPathFault.{EtcdPathFault}
+use Rattle.etcd_records.specs.Paths.{Parts, addresses_in}
+use Rattle.etcd_records.specs.declared.paths.fault.EtcdPathFault.{EtcdPathFault}
 use Rattle.kept_records.specs.declared.fault.OpenFault.{OpenFault}
 use Rattle.kept_records.specs.declared.fault.OpenFault.TheVariants.{Unopened}
 use Rattle.kept_records.specs.declared.record.Record.{Record}

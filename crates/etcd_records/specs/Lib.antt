@@ -5,5 +5,6 @@ pub mod Handles
 pub mod Keys
 pub mod Laws
 pub mod Openings
+pub mod Paths
 pub mod Replies
 pub mod Requests

@@ -1,6 +1,6 @@
 // Paths of histories in etcd, and what is wrong with others.
 
-use etcd_paths::{EtcdPath, is_etcd_path, parse_etcd_path};
+use etcd_records::{EtcdPath, is_etcd_path, parse_etcd_path};
 use std::alloc::Global;
 
 // A path, and its addresses and its prefix, or what is wrong with it; `other` if it isn't one of etcd. Each `#` is 64

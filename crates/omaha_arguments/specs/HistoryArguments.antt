@@ -4,7 +4,7 @@ use Rattle.std.specs.Option.{option_and_then}
 use Rattle.std.specs.Str.{bytes_eq}
 use Rattle.clap.specs.Words.{App, Kinds, Row, new_app, with_rule}
 use Rattle.clap.specs.declared.error.kind.ErrorKind.TheVariants.{ValueValidation}
-use Rattle.etcd_paths.specs.declared.fault.EtcdPathFault.{EtcdPathFault}
+use Rattle.etcd_records.specs.declared.paths.fault.EtcdPathFault.{EtcdPathFault}
 use Rattle.omaha_arguments.specs.HistoryPaths.{history_fault}
 use Rattle.omaha_arguments.specs.Options.{option_named, strings_in, wanted_list}
 use Rattle.omaha_arguments.specs.ServeArguments.{limit_in}

@@ -1,7 +1,7 @@
 -- The path of a history that may be in etcd; this project's profile.
 use Rattle.std.specs.Prelude.{ℕ, List, Option, None, Some, Result, Err}
-use Rattle.etcd_paths.specs.Paths.{Parts, etcd_path_in}
-use Rattle.etcd_paths.specs.declared.fault.EtcdPathFault.{EtcdPathFault}
+use Rattle.etcd_records.specs.Paths.{Parts, etcd_path_in}
+use Rattle.etcd_records.specs.declared.paths.fault.EtcdPathFault.{EtcdPathFault}
 
 -- why what was read is invalid
 abbrev pub fault_of : Option (Result Parts EtcdPathFault) → Option EtcdPathFault

@@ -4,8 +4,8 @@ use Rattle.std.specs.List.{after_first, before_first, ends_with, starts_with}
 use Rattle.std.specs.Option.{option_map, option_map_or}
 use Rattle.clap.specs.Words.{App, Kinds, Row, first_of, new_app, with_rule}
 use Rattle.clap.specs.declared.error.kind.ErrorKind.TheVariants.{MissingRequiredArgument, ValueValidation}
-use Rattle.etcd_paths.specs.Paths.{is_etcd_path}
-use Rattle.etcd_paths.specs.declared.fault.EtcdPathFault.{EtcdPathFault}
+use Rattle.etcd_records.specs.Paths.{is_etcd_path}
+use Rattle.etcd_records.specs.declared.paths.fault.EtcdPathFault.{EtcdPathFault}
 use Rattle.omaha_arguments.specs.HistoryPaths.{history_fault}
 use Rattle.omaha_arguments.specs.Options.{flag_in, flag_named, number_in, number_of, number_within, option_named, seconds_in, string_in, wanted_option, workers_in}
 use Rattle.omaha_arguments.specs.declared.command.Serve.{Serve}

@@ -13,7 +13,7 @@ use crate::rejections::{out_of_memory, rejection};
 use crate::serve_arguments::limit_in;
 use clap::error::ErrorKind;
 use clap::{ArgMatches, Error};
-use etcd_paths::EtcdPathFault;
+use etcd_records::EtcdPathFault;
 use std::alloc::{AllocError, Global};
 use values::Text;
 

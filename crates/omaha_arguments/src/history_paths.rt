@@ -8,7 +8,7 @@ use crate::options::Making;
 use crate::rejections::{out_of_memory, rejection};
 use clap::Error;
 use clap::error::ErrorKind;
-use etcd_paths::{EtcdPathFault, parse_etcd_path};
+use etcd_records::{EtcdPathFault, parse_etcd_path};
 use std::alloc::Global;
 
 /// What is wrong with a path that begins with `etcd://`.

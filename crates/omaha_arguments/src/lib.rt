@@ -6,7 +6,7 @@
 //! `publish`, `raise`, `dump` and `status`, `specs/OperatorArguments.antt`; for `stop`, `specs/StopArguments.antt`; for
 //! `script`, `specs/ScriptArguments.antt`; for `history`, `specs/HistoryArguments.antt`; for `review`,
 //! `specs/ReviewArguments.antt`; for `graph`, `specs/GraphArguments.antt`;
-//! for `walk`, `specs/WalkArguments.antt`. The path of a history may be one of `etcd_paths`. How they are rejected is said
+//! for `walk`, `specs/WalkArguments.antt`. The path of a history may be one of `etcd_records`. How they are rejected is said
 //! by `specs/Errors.antt`.
 //!
 //! It opens no file and carries nothing out.

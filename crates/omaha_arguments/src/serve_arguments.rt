@@ -16,7 +16,7 @@ use crate::options::{
 use crate::rejections::{out_of_memory, rejection};
 use clap::error::ErrorKind;
 use clap::{ArgMatches, Error};
-use etcd_paths::{EtcdPathFault, is_etcd_path};
+use etcd_records::{EtcdPathFault, is_etcd_path};
 use std::alloc::{AllocError, Global};
 use values::Text;
 

@@ -2,7 +2,7 @@
 use Rattle.std.specs.Prelude.{◌≡◌, ◌⊎◌, ℕ, Bool, true, false, codes, max, min, List, Option, None, Some, Result, Ok, Err}
 use Rattle.streams.specs.Streams.{Known}
 use Rattle.omaha_arguments.specs.declared.command.Serve.{Serve}
-use Rattle.etcd_paths.specs.Paths.{is_etcd_path}
+use Rattle.etcd_records.specs.Paths.{is_etcd_path}
 use Rattle.systems.specs.Edges.{Edges}
 use Rattle.omaha_server.specs.Checks.{IsStockedFor}
 use Rattle.omaha_server.specs.Passages.{Passages}

@@ -6,7 +6,7 @@ ghost use Rattle.omaha_cli.specs.Serving.{EndsAs, IsAlone, IsHostedBy, IsPlaceOf
 ghost use Rattle.omaha_server.specs.Serving.{IsSilent};
 ghost use Rattle.streams.specs.Streams.{Known};
 
-use etcd_paths::is_etcd_path;
+use etcd_records::is_etcd_path;
 use followers::follow;
 use http_ports::Port;
 use kept_records::{Records, Stores};

@@ -7,7 +7,7 @@ ghost use Rattle.kept_records.specs.Keeping.{record_of};
 ghost use Rattle.kept_records.specs.declared.record.Kind.TheVariants.{Profile};
 
 use crate::server_records::ServerRecords;
-use etcd_paths::is_etcd_path;
+use etcd_records::is_etcd_path;
 use kept_records::{AppendFault, Kind, OpenFault, ReadFault, Record, Records, Stores, Unkept};
 use omaha_arguments::Serve;
 use omaha_commands::{Failure, HistoryFault, open_service, read_named, service_in};

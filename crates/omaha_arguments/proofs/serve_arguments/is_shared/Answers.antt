@@ -3,7 +3,7 @@ use Rattle.std.specs.Prelude.{codes}
 use Rattle.std.specs.Option.{option_map, option_map_or}
 use Rattle.clap.proofs.WalkLemmas.{first_value-rows}
 use Rattle.clap.specs.Words.{found_of}
-use Rattle.etcd_paths.specs.Paths.{is_etcd_path}
+use Rattle.etcd_records.specs.Paths.{is_etcd_path}
 use Rattle.omaha_arguments.proofs.serve_arguments.is_shared.Goals as goal
 
 pub returns-in-None : goal.returns-in-None

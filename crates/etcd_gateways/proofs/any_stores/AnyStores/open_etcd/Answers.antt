@@ -1,5 +1,5 @@
 use Rattle.std.proofs.Common.{◌∙◌, ap}
-use Rattle.etcd_paths.specs.Paths.{parts_of}
+use Rattle.etcd_records.specs.Paths.{parts_of}
 use Rattle.etcd_gateways.specs.Stores.{attempts_for}
 use Rattle.etcd_gateways.proofs.StoreLemmas.{failed_by, no_memory, opened_by}
 use Rattle.etcd_gateways.proofs.any_stores.AnyStores.open_etcd.Goals as goal

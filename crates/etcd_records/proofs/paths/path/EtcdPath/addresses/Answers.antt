@@ -1,7 +1,7 @@
 use Rattle.std.proofs.Common.{◌∙◌, ap, sym, append_assoc, List, ℕ, ◌++◌, ◌∷◌, [], rules}
-use Rattle.etcd_paths.specs.Paths.{addresses_in}
-use Rattle.etcd_paths.proofs.CommaLemmas.{addresses_in-none, addresses_in-some}
-use Rattle.etcd_paths.proofs.path.EtcdPath.addresses.Goals as goal
+use Rattle.etcd_records.specs.Paths.{addresses_in}
+use Rattle.etcd_records.proofs.CommaLemmas.{addresses_in-none, addresses_in-some}
+use Rattle.etcd_records.proofs.paths.path.EtcdPath.addresses.Goals as goal
 
 pub loop-first-preserved : goal.loop-first-preserved
 loop-first-preserved c =

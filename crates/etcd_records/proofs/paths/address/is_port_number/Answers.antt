@@ -2,8 +2,8 @@ use Rattle.std.proofs.Common.{◌≡◌, get_or, ◌&&◌, arith, sym, ◌∙◌
 use Rattle.std.specs.Char.{is_ascii_digit, digit_value}
 use Rattle.std.proofs.lemmas.Bool.Decides.{nat_tests}
 use Rattle.std.proofs.lemmas.List.Folds.{list_all_more}
-use Rattle.etcd_paths.proofs.PortLemmas.{min-digits}
-use Rattle.etcd_paths.proofs.address.is_port_number.Goals as goal
+use Rattle.etcd_records.proofs.PortLemmas.{min-digits}
+use Rattle.etcd_records.proofs.paths.address.is_port_number.Goals as goal
 
 pub loop-digit-preserved : goal.loop-digit-preserved
 loop-digit-preserved c =

@@ -2,8 +2,8 @@
 use Rattle.std.proofs.Common.{◌≡◌}
 use denote.Text.{Utf8}
 use denote.Shadow.{shadow}
-use Rattle.etcd_paths.specs.Paths.{addresses_fault, addresses_in}
-use Rattle.etcd_paths.proofs.path.addresses_fault.Given as goal
+use Rattle.etcd_records.specs.Paths.{addresses_fault, addresses_in}
+use Rattle.etcd_records.proofs.paths.path.addresses_fault.Given as goal
 
 abbrev pub invariant-loop-number : goal.invariant-loop-number
 invariant-loop-number l = shadow (Utf8 l.rest)

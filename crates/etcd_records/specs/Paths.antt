@@ -3,9 +3,9 @@ use Rattle.std.specs.Prelude.{ℕ, ◌+◌, Bool, false, ◌&&◌, ◌||◌, ◌
 use Rattle.std.specs.List.{list_all, position_or_len, before_first, after_first}
 use Rattle.std.specs.Char.{is_ascii_alphanumeric, is_ascii_digit, is_ascii_hexdigit}
 use Rattle.std.specs.Str.Parse.{digits_value}
-use Rattle.etcd_paths.specs.declared.fault.EtcdPathFault.{EtcdPathFault}
-use Rattle.etcd_paths.specs.declared.fault.EtcdPathFault.TheVariants as fault
-use Rattle.etcd_paths.specs.declared.path.EtcdPath.{EtcdPath}
+use Rattle.etcd_records.specs.declared.paths.fault.EtcdPathFault.{EtcdPathFault}
+use Rattle.etcd_records.specs.declared.paths.fault.EtcdPathFault.TheVariants as fault
+use Rattle.etcd_records.specs.declared.paths.path.EtcdPath.{EtcdPath}
 
 -- a byte of a host's name: a letter, a digit, a hyphen or a dot
 abbrev pub is_host_byte : ℕ → Bool

@@ -2,7 +2,7 @@
 
 ghost use Rattle.std.specs.Prelude.{◌≡◌, ◌<◌, MatchOption, None, Some, length};
 ghost use Rattle.std.specs.List.{list_all};
-ghost use Rattle.etcd_paths.specs.Paths.{is_address, is_bracketed, is_host_byte, is_literal, is_literal_byte, is_name, is_named, is_port, is_port_after, is_place, split_at};
+ghost use Rattle.etcd_records.specs.Paths.{is_address, is_bracketed, is_host_byte, is_literal, is_literal_byte, is_name, is_named, is_port, is_port_after, is_place, split_at};
 
 fn is_host_byte(byte: u8) -> bool
     ensures { result ≡ is_host_byte byte }

@@ -4,11 +4,9 @@
 //!
 //! It looks up no name and connects to nothing.
 
-#![tactic(auto)]
-
 mod address;
 mod fault;
 mod path;
 
-pub use crate::fault::EtcdPathFault;
-pub use crate::path::{EtcdPath, is_etcd_path, parse_etcd_path};
+pub use crate::paths::fault::EtcdPathFault;
+pub use crate::paths::path::{EtcdPath, is_etcd_path, parse_etcd_path};

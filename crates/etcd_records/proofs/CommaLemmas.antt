@@ -3,8 +3,8 @@ use Rattle.std.proofs.Common.{◌≡◌, ℕ, suc, ◌+◌, ◌<◌, ◌≤◌, 
 use Rattle.std.specs.List.{before_first, after_first, position_or_len}
 use Rattle.std.proofs.lemmas.Bool.{le-ltb, lt-ltb, ltb-true, ltb-false}
 use Rattle.std.proofs.lemmas.Option.{cond_some}
-use Rattle.etcd_paths.specs.declared.fault.EtcdPathFault.TheVariants.{BadAddress, ManyAddresses}
-use Rattle.etcd_paths.specs.Paths.{is_address, addresses_fault, addresses_in, before_all, split_at}
+use Rattle.etcd_records.specs.declared.paths.fault.EtcdPathFault.TheVariants.{BadAddress, ManyAddresses}
+use Rattle.etcd_records.specs.Paths.{is_address, addresses_fault, addresses_in, before_all, split_at}
 
 -- without a comma there is one string
 no_comma : (text : List ℕ) → length text ≤ position_or_len (λ (byte : ℕ). byte == 44) text → addresses_in text ≡ text ∷ []

@@ -2,8 +2,8 @@
 use Rattle.std.proofs.Common.{◌≡◌, ◌++◌, length}
 use denote.Text.{Utf8}
 use denote.Shadow.{shadow}
-use Rattle.etcd_paths.specs.Paths.{addresses_in}
-use Rattle.etcd_paths.proofs.path.EtcdPath.addresses.Given as goal
+use Rattle.etcd_records.specs.Paths.{addresses_in}
+use Rattle.etcd_records.proofs.paths.path.EtcdPath.addresses.Given as goal
 
 abbrev pub invariant-loop-first : goal.invariant-loop-first
 invariant-loop-first l = shadow (Utf8 l.rest)

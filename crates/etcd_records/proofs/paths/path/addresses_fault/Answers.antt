@@ -1,6 +1,6 @@
 use Rattle.std.proofs.Common.{◌∙◌, sym, true, false, arith, rules}
-use Rattle.etcd_paths.proofs.CommaLemmas.{last_fault, next_fault, seventeenth_fault}
-use Rattle.etcd_paths.proofs.path.addresses_fault.Goals as goal
+use Rattle.etcd_records.proofs.CommaLemmas.{last_fault, next_fault, seventeenth_fault}
+use Rattle.etcd_records.proofs.paths.path.addresses_fault.Goals as goal
 
 pub returns-then-is_address : goal.returns-then-is_address
 returns-then-is_address c =

@@ -2,10 +2,10 @@
 
 ghost use Rattle.std.specs.Prelude.{◌≡◌, ◌<◌, drop, length, false, true, IfOk, MatchOption, MatchResult, None, Ok, Err, Some};
 ghost use Rattle.std.specs.List.{list_all};
-ghost use Rattle.etcd_paths.specs.Paths.{addresses_fault, addresses_in, etcd_path_in, hosts_fault, is_etcd_path, is_visible, parts_after, parts_by, parts_of, prefix_fault};
+ghost use Rattle.etcd_records.specs.Paths.{addresses_fault, addresses_in, etcd_path_in, hosts_fault, is_etcd_path, is_visible, parts_after, parts_by, parts_of, prefix_fault};
 
-use crate::address::{is_address, split_at};
-use crate::fault::EtcdPathFault;
+use crate::paths::address::{is_address, split_at};
+use crate::paths::fault::EtcdPathFault;
 use std::alloc::{AllocError, Global};
 use values::{Items, Text};
 

@@ -1,2 +1,0 @@
-pub mod CommaLemmas
-pub mod PortLemmas
