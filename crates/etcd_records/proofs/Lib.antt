@@ -6,3 +6,4 @@ pub mod OpenLemmas
 pub mod PortLemmas
 pub mod ReplyLemmas
 pub mod ShownLemmas
+pub mod StoreLemmas

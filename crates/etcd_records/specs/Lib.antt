@@ -1,6 +1,7 @@
 pub mod Appending
 pub mod Asking
 pub mod Exchanges
+pub mod Gateways
 pub mod Handles
 pub mod Keys
 pub mod Laws
@@ -8,3 +9,5 @@ pub mod Openings
 pub mod Paths
 pub mod Replies
 pub mod Requests
+pub mod Stores
+pub mod Turns

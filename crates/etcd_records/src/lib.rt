@@ -17,6 +17,7 @@ mod appending;
 mod asking;
 mod exchange;
 mod gateway;
+mod gateways;
 mod handle;
 mod keys;
 pub mod laws;
@@ -29,6 +30,7 @@ mod verdicts;
 
 pub use crate::exchange::{Exchange, Outcome};
 pub use crate::gateway::{Gateway, GatewayFault, Response};
+pub use crate::gateways::{AnyRecords, AnyStores, MAX_REPLY, TcpGateway};
 pub use crate::handle::EtcdRecords;
 pub use crate::memory::{EtcdStore, EtcdTurn, MemoryGateway};
 pub use crate::paths::{EtcdPath, EtcdPathFault, is_etcd_path, parse_etcd_path};

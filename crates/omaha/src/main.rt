@@ -4,7 +4,7 @@
 
 #![tactic(auto)]
 
-use etcd_gateways::AnyStores;
+use etcd_records::AnyStores;
 use history::HistoryFiles;
 use omaha_cli::{EndSigns, ReportingStores, Sockets, report_unreadable, run};
 use std::process::ExitCode;

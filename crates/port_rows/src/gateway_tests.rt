@@ -3,8 +3,7 @@
 ghost use Rattle.std.specs.Prelude.{◌<◌, IfSome, length};
 
 use crate::server::{free_host, listen, serve_once};
-use etcd_gateways::TcpGateway;
-use etcd_records::{Gateway, GatewayFault, Response};
+use etcd_records::{Gateway, GatewayFault, Response, TcpGateway};
 use std::alloc::Global;
 use std::net::{Net, TcpListener, TcpStream};
 use std::str;

@@ -7,8 +7,8 @@ use Rattle.kept_records.specs.declared.fault.OpenFault.TheVariants.{Failed}
 use Rattle.kept_records.specs.declared.fault.ReadFault.TheVariants as read
 use Rattle.etcd_records.specs.Handles.{AreShown, Handle}
 use Rattle.etcd_records.specs.Openings.{AreAll, OpenFails}
-use Rattle.etcd_gateways.specs.Gateways.{Posts}
-use Rattle.etcd_gateways.specs.Stores.{IsHandleOf, attempts_for}
+use Rattle.etcd_records.specs.Gateways.{Posts}
+use Rattle.etcd_records.specs.Stores.{IsHandleOf, attempts_for}
 
 -- a handle that was opened with the addresses and the prefix of a path
 pub opened_by : (parts : Parts) (limit : ℕ) (handle : Handle Posts) (addresses : List (List ℕ)) (prefix : List ℕ) (attempts : ℕ)

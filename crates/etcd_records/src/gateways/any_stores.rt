@@ -3,11 +3,12 @@
 ghost use Rattle.std.specs.Prelude.{◌≡◌, ◌<◌, IfErr, IfOk, length};
 ghost use Rattle.etcd_records.specs.Paths.{addresses_in, etcd_path_in, parts_of};
 ghost use Rattle.etcd_records.specs.Openings.{OpenFails};
-ghost use Rattle.etcd_gateways.specs.Stores.{AreFoundAt, AreOpenedAt, AreUnopened, IsHandleOf, attempts_for, first_in, known_in};
+ghost use Rattle.etcd_records.specs.Stores.{AreFoundAt, AreOpenedAt, AreUnopened, IsHandleOf, attempts_for, first_in, known_in};
 
-use crate::any_records::AnyRecords;
-use crate::tcp_gateway::TcpGateway;
-use etcd_records::{EtcdPath, EtcdRecords, parse_etcd_path};
+use crate::gateways::any_records::AnyRecords;
+use crate::gateways::tcp_gateway::TcpGateway;
+use crate::handle::EtcdRecords;
+use crate::paths::{EtcdPath, parse_etcd_path};
 use kept_records::{Cause, OpenFault, Record, Stores};
 use std::alloc::{AllocError, Global};
 use std::net::{Net, TcpListener, TcpStream};
@@ -80,7 +81,7 @@ impl<'a, R: Net<Listener = TcpListener, Stream = TcpStream> + Clock + AllocGloba
     type Kept = AnyRecords<'a, R, F::Kept>;
 
     ghost use Rattle.etcd_records.specs.Paths.{etcd_path_in};
-    ghost use Rattle.etcd_gateways.specs.Stores.{AreFoundAt};
+    ghost use Rattle.etcd_records.specs.Stores.{AreFoundAt};
 
     ghost found = { λ stores path. AreFoundAt (F.found stores.files path) (etcd_path_in path) };
 

@@ -2,8 +2,8 @@
 
 ghost use Rattle.std.specs.Prelude.{◌≡◌};
 
-use crate::tcp_gateway::TcpGateway;
-use etcd_records::EtcdRecords;
+use crate::gateways::tcp_gateway::TcpGateway;
+use crate::handle::EtcdRecords;
 use kept_records::{AppendFault, Kind, ReadFault, Record, Records};
 use std::alloc::Global;
 use std::net::{Net, TcpListener, TcpStream};
@@ -20,7 +20,7 @@ pub enum AnyRecords<'a, R: Net<Listener = TcpListener, Stream = TcpStream> + Clo
 
 impl<R: Net<Listener = TcpListener, Stream = TcpStream> + Clock, K: Records> Records
     for AnyRecords<'_, R, K> {
-    ghost use Rattle.etcd_gateways.specs.Stores.{first_in, known_in, was_read_in};
+    ghost use Rattle.etcd_records.specs.Stores.{first_in, known_in, was_read_in};
 
     ghost kept = { λ records. known_in K.kept records };
 

@@ -6,12 +6,10 @@
 //!
 //! It keeps no connection, and neither encrypts nor names itself to etcd.
 
-#![tactic(auto)]
-
 mod any_records;
 mod any_stores;
 mod tcp_gateway;
 
-pub use crate::any_records::AnyRecords;
-pub use crate::any_stores::AnyStores;
-pub use crate::tcp_gateway::{MAX_REPLY, TcpGateway};
+pub use crate::gateways::any_records::AnyRecords;
+pub use crate::gateways::any_stores::AnyStores;
+pub use crate::gateways::tcp_gateway::{MAX_REPLY, TcpGateway};

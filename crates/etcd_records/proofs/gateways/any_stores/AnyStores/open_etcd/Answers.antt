@@ -1,8 +1,8 @@
 use Rattle.std.proofs.Common.{◌∙◌, ap}
 use Rattle.etcd_records.specs.Paths.{parts_of}
-use Rattle.etcd_gateways.specs.Stores.{attempts_for}
-use Rattle.etcd_gateways.proofs.StoreLemmas.{failed_by, no_memory, opened_by}
-use Rattle.etcd_gateways.proofs.any_stores.AnyStores.open_etcd.Goals as goal
+use Rattle.etcd_records.specs.Stores.{attempts_for}
+use Rattle.etcd_records.proofs.StoreLemmas.{failed_by, no_memory, opened_by}
+use Rattle.etcd_records.proofs.gateways.any_stores.AnyStores.open_etcd.Goals as goal
 
 pub returns-in-Ok-open-clause-opened : goal.returns-in-Ok-open-clause-opened
 returns-in-Ok-open-clause-opened g c =

@@ -3,9 +3,10 @@
 ghost use Rattle.std.specs.Prelude.{◌≡◌, ◌<◌, ◌≤◌, ◌++◌, ◌∷◌, [], IfOk, Some, length, slice_get};
 ghost use Rattle.etcd_records.specs.Exchanges.{exchange_of};
 ghost use Rattle.update_client.specs.Replies.{PostedWithin};
-ghost use Rattle.etcd_gateways.specs.Turns.{IsWithin, came_of, goes_on, next_place, place_after};
+ghost use Rattle.etcd_records.specs.Turns.{IsWithin, came_of, goes_on, next_place, place_after};
 
-use etcd_records::{Exchange, Gateway, GatewayFault, Response};
+use crate::exchange::Exchange;
+use crate::gateway::{Gateway, GatewayFault, Response};
 use std::alloc::Global;
 use std::marker::Model;
 use std::net::{Net, TcpListener, TcpStream};
@@ -104,7 +105,7 @@ impl<'a, R: Net<Listener = TcpListener, Stream = TcpStream> + Clock> Drop for Tc
 
 impl<'a, R: Net<Listener = TcpListener, Stream = TcpStream> + Clock> Model for TcpGateway<'a, R> {
     ghost use Rattle.std.specs.Prelude.{◌<◌, length};
-    ghost use Rattle.etcd_gateways.specs.Gateways.{Posts, posts_code};
+    ghost use Rattle.etcd_records.specs.Gateways.{Posts, posts_code};
 
     ghost Value = { Posts };
 

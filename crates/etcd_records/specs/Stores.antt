@@ -8,9 +8,9 @@ use Rattle.kept_records.specs.declared.record.Record.{Record}
 use Rattle.etcd_records.specs.Handles.{AreShown, Handle}
 use Rattle.etcd_records.specs.Openings.{AreAll, OpenFails}
 use Rattle.etcd_records.specs.declared.exchange.Exchange.{Exchange}
-use Rattle.etcd_gateways.specs.Gateways.{Posts}
-use Rattle.etcd_gateways.specs.declared.any_records.AnyRecords.{AnyRecords}
-use Rattle.etcd_gateways.specs.declared.any_records.AnyRecords.TheVariants.{InFile, InEtcd}
+use Rattle.etcd_records.specs.Gateways.{Posts}
+use Rattle.etcd_records.specs.declared.gateways.any_records.AnyRecords.{AnyRecords}
+use Rattle.etcd_records.specs.declared.gateways.any_records.AnyRecords.TheVariants.{InFile, InEtcd}
 
 -- the known records
 abbrev pub known_in : {R K : Type 0} → (K → List Record) → AnyRecords R K → List Record

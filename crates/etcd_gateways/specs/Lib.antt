@@ -1,3 +1,0 @@
-pub mod Gateways
-pub mod Stores
-pub mod Turns
