@@ -7,10 +7,10 @@ use Rattle.kept_records.specs.declared.record.Record.{Record}
 use Rattle.omaha_arguments.specs.declared.command.HistoryAction.{HistoryAction}
 use Rattle.omaha_arguments.specs.declared.command.HistoryAction.TheVariants as action
 use Rattle.omaha_arguments.specs.declared.command.HistoryAsked.{HistoryAsked}
-use Rattle.restarts.specs.Exporting.{IsExport}
-use Rattle.restarts.specs.Listing.{listing}
-use Rattle.restarts.specs.Numbering.{AreUpTo, editions_in}
-use Rattle.restarts.specs.Restarting.{LeadTo}
+use Rattle.omaha_histories.specs.Exporting.{IsExport}
+use Rattle.omaha_histories.specs.Listing.{listing}
+use Rattle.omaha_histories.specs.Numbering.{AreUpTo, editions_in}
+use Rattle.omaha_histories.specs.Restarting.{LeadTo}
 use Rattle.service_desks.specs.declared.services.service.Service.{Service}
 use Rattle.streams.specs.Reading.{IsWhole}
 use Rattle.omaha_commands.specs.Profiles.{Files, IsServed, max_profile}

@@ -1,2 +1,9 @@
+pub mod Exporting
+pub mod Found
 pub mod Histories
+pub mod Laws
+pub mod Listing
+pub mod Numbering
+pub mod Restarting
 pub mod Server
+pub mod Steps

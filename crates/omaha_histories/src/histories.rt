@@ -6,12 +6,12 @@ ghost use Rattle.omaha_histories.specs.Server.{first_in, known_in};
 ghost use Rattle.kept_records.specs.Keeping.{record_of};
 ghost use Rattle.kept_records.specs.declared.record.Kind.TheVariants.{Profile};
 
+use crate::restarts::{RestoreError, Restored, restore};
 use crate::server_records::ServerRecords;
 use etcd_records::is_etcd_path;
 use kept_records::{AppendFault, Kind, OpenFault, ReadFault, Record, Records, Stores, Unkept};
 use omaha_arguments::Serve;
 use omaha_commands::{Failure, HistoryFault, open_service, read_named, service_in};
-use restarts::{RestoreError, Restored, restore};
 use service_desks::{KeptService, Mirrors, Service};
 use std::thread::Threads;
 use streams::{Disk, ReadFailure};

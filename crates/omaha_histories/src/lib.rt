@@ -13,9 +13,13 @@
 mod histories;
 mod reading_histories;
 mod reporting_stores;
+pub mod restarts;
 mod server_records;
 
 pub use crate::histories::open_beginning;
 pub use crate::reading_histories::print_history;
 pub use crate::reporting_stores::{ReportedRecords, ReportingStores};
+pub use crate::restarts::{
+    RestoreError, Restored, count_editions, export, list, records_until, restore,
+};
 pub use crate::server_records::ServerRecords;

@@ -4,7 +4,7 @@ use crate::desk::{bodies_of, first_wrong, push_body, replies_kept};
 use catalogue::Mirror;
 use fixtures::{CHAINED, mirrors_of_profile, open_document};
 use kept_records::{Kind, MemoryRecords, Record, Records, Turn};
-use restarts::{export, list};
+use omaha_histories::{export, list};
 use std::alloc::Global;
 use std::str;
 use std::sync::Wait;

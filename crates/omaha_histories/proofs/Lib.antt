@@ -1,0 +1,6 @@
+mod CallLemmas
+mod CrashLemmas
+mod FollowLemmas
+mod LeadLemmas
+mod OneLemmas
+mod ServerLemmas

@@ -1,0 +1,31 @@
+//! What a restart finds, for all records and all calls.
+
+ghost use Rattle.omaha_histories.specs.Laws.{CrashesLoseNothing, PublishedEditionsStay, RecordsLeadToOne, RestartsFindWhatWasPublished, ServersAgree};
+
+/// States that records lead to one history and one list of mirrors at most.
+pub fn records()
+    ensures { RecordsLeadToOne }
+{}
+
+// rule: Servers of one history
+/// States that of two servers of one history, one published the first batches that the other one published.
+pub fn servers()
+    ensures { ServersAgree }
+{}
+
+/// States that the records of an operator's desk lead to what it published, and to the budgets that it raised.
+pub fn restarts()
+    ensures { RestartsFindWhatWasPublished }
+{}
+
+/// States that what an operator's desk published stays: each later edition, also one that is due, has all its batches.
+pub fn editions()
+    ensures { PublishedEditionsStay }
+{}
+
+// rule: Restart after a crash
+/// States that a crash within a call of the operator's desk loses nothing that an earlier call published or raised. It
+/// leaves the records from before the call or after it, as `append` of `kept_records` says by its contract in `history`.
+pub fn crashes()
+    ensures { CrashesLoseNothing }
+{}

@@ -1,6 +1,0 @@
-mod LeadLemmas
-mod OneLemmas
-mod FollowLemmas
-mod CallLemmas
-mod CrashLemmas
-mod ServerLemmas

@@ -1,6 +1,0 @@
-use Rattle.std.proofs.Common.{take}
-use Rattle.restarts.specs.Restarting.{FollowAll}
-use Rattle.restarts.proofs.restoring.follow_all.Given as goal
-
-abbrev pub invariant-loop-index : goal.invariant-loop-index
-invariant-loop-index l = FollowAll l.initial.draft (take l.index l.others) l.draft
