@@ -7,12 +7,11 @@ ghost use Rattle.omaha_server.specs.Serving.{IsSilent};
 ghost use Rattle.streams.specs.Streams.{Known};
 
 use etcd_records::is_etcd_path;
-use followers::follow;
 use http_ports::Port;
 use kept_records::{Records, Stores};
 use omaha_arguments::{Serve, VERSION};
 use omaha_commands::Failure;
-use omaha_histories::open_beginning;
+use omaha_histories::{follow, open_beginning};
 use omaha_server::{Place, ServerError, serve};
 use service_desks::KeptService;
 use std::alloc::{AllocError, Global};

@@ -2,5 +2,6 @@ mod CallLemmas
 mod CrashLemmas
 mod FollowLemmas
 mod LeadLemmas
+pub mod LookLemmas
 mod OneLemmas
 mod ServerLemmas

@@ -3,6 +3,7 @@ pub mod Found
 pub mod Histories
 pub mod Laws
 pub mod Listing
+pub mod Looks
 pub mod Numbering
 pub mod Restarting
 pub mod Server

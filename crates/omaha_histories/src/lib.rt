@@ -10,12 +10,14 @@
 
 #![tactic(auto)]
 
+mod followers;
 mod histories;
 mod reading_histories;
 mod reporting_stores;
 pub mod restarts;
 mod server_records;
 
+pub use crate::followers::{Found, follow, look};
 pub use crate::histories::open_beginning;
 pub use crate::reading_histories::print_history;
 pub use crate::reporting_stores::{ReportedRecords, ReportingStores};

@@ -1,7 +1,7 @@
 // A look at a history.
 
 ghost use Rattle.std.specs.Prelude.{◌≡◌};
-ghost use Rattle.followers.specs.Looks.{IsLook, found_of};
+ghost use Rattle.omaha_histories.specs.Looks.{IsLook, found_of};
 
 use std::alloc::Global;
 use update_client::{Connector, Limits, Reply};

@@ -1,5 +1,5 @@
-use Rattle.followers.proofs.LookLemmas.{IsLook-replied}
-use Rattle.followers.proofs.looks.look_once.Goals as goal
+use Rattle.omaha_histories.proofs.LookLemmas.{IsLook-replied}
+use Rattle.omaha_histories.proofs.followers.looks.look_once.Goals as goal
 
 pub returns-in-Ok : goal.returns-in-Ok
 returns-in-Ok g c =

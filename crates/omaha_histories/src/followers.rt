@@ -6,10 +6,8 @@
 //!
 //! It knows no history, and no server but by its address. Contracts can't say how often it looks.
 
-#![tactic(auto)]
-
 mod following;
 mod looks;
 
-pub use crate::following::follow;
-pub use crate::looks::{Found, look};
+pub use crate::followers::following::follow;
+pub use crate::followers::looks::{Found, look};

@@ -1,9 +1,9 @@
 -- What a reply to `follow` says of a look.
 use Rattle.std.proofs.Common.{◌≡◌, ℕ, List, sym}
 use Rattle.std.specs.Prelude.{codes}
-use Rattle.followers.specs.Looks.{IsLook, found_of}
-use Rattle.followers.specs.declared.looks.Found.{Found}
-use Rattle.followers.specs.declared.looks.Found.TheVariants as found
+use Rattle.omaha_histories.specs.Looks.{IsLook, found_of}
+use Rattle.omaha_histories.specs.declared.followers.looks.Found.{Found}
+use Rattle.omaha_histories.specs.declared.followers.looks.Found.TheVariants as found
 use Rattle.update_client.specs.declared.posting.Reply.{Reply}
 
 -- a look comes to what a reply says

@@ -1,6 +1,6 @@
 // Looks at a history, again and again.
 
-use crate::looks::look;
+use crate::followers::looks::look;
 use std::alloc::Global;
 use std::sync::atomic::{AtomicBool, Ordering};
 use std::thread;

@@ -1,8 +1,8 @@
 -- What a look at a shared history comes to; this project's profile.
 use Rattle.std.specs.Prelude.{◌≡◌, ◌==◌, ⊤, ℕ, List, codes, if◌then◌else◌, nat_eq}
 use Rattle.std.specs.List.{starts_with}
-use Rattle.followers.specs.declared.looks.Found.{Found}
-use Rattle.followers.specs.declared.looks.Found.TheVariants as found
+use Rattle.omaha_histories.specs.declared.followers.looks.Found.{Found}
+use Rattle.omaha_histories.specs.declared.followers.looks.Found.TheVariants as found
 use Rattle.update_client.specs.declared.posting.Reply.{Reply}
 
 -- what the line of an accepted call says
