@@ -14,4 +14,5 @@
 
 #![tactic(auto)]
 
+pub mod interleavings;
 pub mod laws;

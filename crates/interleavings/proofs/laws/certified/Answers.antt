@@ -1,5 +1,0 @@
-use Rattle.interleavings.proofs.RowLemmas.{requests_have_rows}
-use Rattle.interleavings.proofs.laws.certified.Goals as goal
-
-pub returns : goal.returns
-returns c = requests_have_rows c.validity.ensures c.graphs.ensures c.tables.ensures

@@ -1,7 +1,0 @@
-use Rattle.interleavings.proofs.HeadlineLemmas.{offers_lead_to_targets}
-use Rattle.interleavings.proofs.laws.following.Goals as goal
-
-pub returns : goal.returns
-returns c =
-    offers_lead_to_targets c.every_interleaving.ensures.replies c.statuses.ensures c.steps.ensures
-    c.walk.ensures.exists c.walk.ensures.least

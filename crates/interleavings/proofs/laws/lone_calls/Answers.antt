@@ -1,8 +1,0 @@
-use Rattle.interleavings.proofs.RowLemmas.{plans_have_rows}
-use Rattle.interleavings.proofs.WorkerLemmas.{lone_calls_are_for_room}
-use Rattle.interleavings.proofs.laws.lone_calls.Goals as goal
-
-pub returns : goal.returns
-returns c =
-    lone_calls_are_for_room
-    (plans_have_rows c.validity.ensures c.rows.ensures c.graphs.ensures c.plans.ensures c.certified.ensures)
