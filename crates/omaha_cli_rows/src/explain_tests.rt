@@ -1,9 +1,9 @@
 // Every code that the program prints has its explanation.
 
 use catalogue::Fault;
-use explanations::explain;
 use mirror_ledger::RaiseError;
 use omaha_cli::Failure;
+use omaha_commands::explain;
 use omaha_json::RequestFault;
 use package_files::DescribeError;
 use price_cert::Fault as CertificateFault;

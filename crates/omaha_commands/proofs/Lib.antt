@@ -1,4 +1,5 @@
 mod DescriptionLemmas
+mod ExplainingLemmas
 mod KeepingLemmas
 mod NumberLemmas
 mod ReviewLemmas

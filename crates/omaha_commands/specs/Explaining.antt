@@ -1,6 +1,6 @@
 -- What the command `explain` prints; this project's profile.
 use Rattle.std.specs.Prelude.{◌≡◌, ◌⊎◌, ℕ, List, Option, Some, None, Result, Ok, Err}
-use Rattle.explanations.specs.Explaining.{explanation_of}
+use Rattle.omaha_commands.specs.Explanations.{explanation_of}
 use Rattle.omaha_commands.specs.Reports.{Prints}
 use Rattle.omaha_commands.specs.Streams.{Streams}
 use Rattle.omaha_commands.specs.declared.failure.Failure.{Failure}

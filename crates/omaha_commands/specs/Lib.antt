@@ -3,6 +3,7 @@ pub mod Asking
 pub mod Comparing
 pub mod Describing
 pub mod Explaining
+pub mod Explanations
 pub mod Failures
 pub mod Graphing
 pub mod HistoryFaults

@@ -1,11 +1,9 @@
 //! What the codes and words mean that the program prints.
 //!
 //! `explain` finds what there is to say of one: where it is found, what it means, its usual cause and the
-//! remedy; `list` names them all. Read `specs/Explaining.antt`.
+//! remedy; `list` names them all. Read `specs/Explanations.antt`.
 //!
 //! It holds strings: when a code is printed is said where the fault is found.
-
-#![tactic(auto)]
 
 mod budgets;
 mod certificates;
@@ -17,4 +15,4 @@ mod requests;
 mod walks;
 mod words;
 
-pub use crate::explaining::{explain, list};
+pub use crate::explanations::explaining::{explain, list};

@@ -1,16 +1,16 @@
 //! The entry of a code, and the list of all.
 
 ghost use Rattle.std.specs.Prelude.{◌≡◌, option_map};
-ghost use Rattle.explanations.specs.Explaining.{entries_of, explanation_of, string_in};
+ghost use Rattle.omaha_commands.specs.Explanations.{entries_of, explanation_of, string_in};
 
-use crate::budgets::BUDGETS;
-use crate::certificates::CERTIFICATES;
-use crate::edits::EDITS;
-use crate::lines::LINES;
-use crate::profiles::PROFILES;
-use crate::requests::REQUESTS;
-use crate::walks::WALKS;
-use crate::words::WORDS;
+use crate::explanations::budgets::BUDGETS;
+use crate::explanations::certificates::CERTIFICATES;
+use crate::explanations::edits::EDITS;
+use crate::explanations::lines::LINES;
+use crate::explanations::profiles::PROFILES;
+use crate::explanations::requests::REQUESTS;
+use crate::explanations::walks::WALKS;
+use crate::explanations::words::WORDS;
 use std::alloc::{AllocError, Global};
 
 // What a table says of a code.
