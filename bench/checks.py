@@ -36,7 +36,7 @@ use catalogue::{
     SetRollback, SetShare, SetTarget,
 };
 use cohorts::{Lane, Pin};
-use reports::check_parallel;
+use omaha_commands::check_parallel;
 use payload_graph::{Graph, TrackKey};
 use price_cert::{Certified, Prices, Row, check};
 use solver::solve;

@@ -10,7 +10,7 @@ use Rattle.package_files.specs.declared.finding.Finding.{Finding}
 use Rattle.package_files.specs.FindingLines.{findings_string}
 use Rattle.package_files.specs.Storages.{Storage}
 use Rattle.catalogue.specs.Lookups.{packages_of}
-use Rattle.reports.specs.Summaries.{summary_of}
+use Rattle.omaha_commands.specs.Summaries.{summary_of}
 use Rattle.omaha_arguments.specs.declared.command.Comparison.{Comparison}
 use Rattle.omaha_commands.specs.Profiles.{Files, IsServed}
 use Rattle.omaha_commands.specs.Streams.{Streams}

@@ -1,5 +1,6 @@
 pub mod Applying
 pub mod Asking
+pub mod Certificates
 pub mod Comparing
 pub mod Describing
 pub mod Explaining
@@ -10,6 +11,7 @@ pub mod HistoryFaults
 pub mod Judging
 pub mod Keeping
 pub mod Operating
+pub mod Pieces
 pub mod Posting
 pub mod Profiles
 pub mod Rejections
@@ -21,4 +23,5 @@ pub mod ShownReplies
 pub mod Stocking
 pub mod Stopping
 pub mod Streams
+pub mod Summaries
 pub mod Walking

@@ -10,8 +10,8 @@ use Rattle.reviews.specs.Reviews.{AreReviews}
 use Rattle.reviews.specs.Warnings.{warnings_string}
 use Rattle.reviews.specs.declared.review.TrackReview.{TrackReview}
 use Rattle.service_desks.specs.declared.services.service.Service.{Service}
-use Rattle.reports.specs.Certificates.{Certifies, Verifies}
-use Rattle.reports.specs.Summaries.{summary_of}
+use Rattle.omaha_commands.specs.Certificates.{Certifies, Verifies}
+use Rattle.omaha_commands.specs.Summaries.{summary_of}
 use Rattle.price_cert.specs.declared.certificates.fault.Fault.{Fault}
 use Rattle.values.specs.declared.read_error.ReadError.{ReadError}
 use Rattle.omaha_commands.specs.Applying.{Applies}

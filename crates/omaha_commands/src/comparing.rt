@@ -10,9 +10,9 @@ ghost use Rattle.streams.specs.Streams.{Known};
 
 use crate::failure::Failure;
 use crate::profile::open_profile;
+use crate::reports::summary;
 use omaha_arguments::Comparison;
 use package_files::{Finding, Folders, findings_string};
-use reports::summary;
 use service_desks::Service;
 use std::alloc::{AllocError, Global};
 use std::thread::Threads;

@@ -7,9 +7,9 @@ use fixtures::{
     DEMO, catalogue_of_script, find_wrong, graph_of, keep, key_of, key_of_seed, largest,
     push_wrong, script_of,
 };
+use omaha_commands::check_parallel;
 use payload_graph::{Graph, Kind};
 use price_cert::{Certified, Prices, Row, Rule, Wrong, check_pair, check_row};
-use reports::check_parallel;
 use solver::solve;
 use std::alloc::{AllocError, Global};
 use std::mem::forget;

@@ -1,3 +1,0 @@
-mod CountLemmas
-mod TextLemmas
-mod UnbrokenLemmas

@@ -1,6 +1,0 @@
-use Rattle.std.proofs.Common.{◌≡◌, take}
-use Rattle.reports.specs.Summaries.{counts_of}
-use Rattle.reports.proofs.counting.counts_of.Given as goal
-
-abbrev pub invariant-loop-app : goal.invariant-loop-app
-invariant-loop-app l = l.counts ≡ counts_of (take l.app-index l.app-items)

@@ -1,3 +1,0 @@
-pub mod Certificates
-pub mod Pieces
-pub mod Summaries
