@@ -1,4 +1,6 @@
+pub mod Answering
 pub mod Doing
+pub mod Once
 pub mod Running
 pub mod Serving
 pub mod Worlds

@@ -2,16 +2,18 @@
 //!
 //! `run` carries out the command that `omaha_arguments` reads, reports how it ended and returns the exit
 //! status: read `specs/Running.antt`. `serve` is served by `omaha_server`: read `specs/Serving.antt`. `once` is
-//! `omaha_once::respond`, `history` is `omaha_histories::print_history`, and all others are those of `omaha_commands`.
+//! `omaha_cli::respond`, `history` is `omaha_histories::print_history`, and all others are those of `omaha_commands`.
 
 #![tactic(auto)]
 
+mod once;
 mod running;
 mod runtime;
 mod serving;
 mod unreadable;
 mod watched;
 
+pub use crate::once::{AnswerError, answer, respond};
 pub use crate::running::{Ending, Status, Task, run};
 pub use crate::runtime::Runtime;
 pub use crate::unreadable::report_unreadable;

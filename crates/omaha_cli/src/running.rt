@@ -5,6 +5,7 @@ ghost use Rattle.omaha_arguments.specs.WalkArguments.{IsAskable};
 ghost use Rattle.omaha_cli.specs.Doing.{Does, Logs};
 ghost use Rattle.omaha_cli.specs.Running.{Ends, EndsBy, EndsTask, IsAdvised, IsLoggedBy, IsManner, IsMistaken, IsReported, IsPrinted, PrintsAdvice, Runs, Shows, code_of, ending_of, status_of};
 
+use crate::once::respond;
 use crate::serving::serve_profile;
 use crate::watched::Watched;
 use advice::{Looks, advice_on};
@@ -16,7 +17,6 @@ use omaha_commands::{
     publish_on, raise_on, report_on, review_on, status_on, stop_on, walk_on,
 };
 use omaha_histories::print_history;
-use omaha_once::respond;
 use package_files::Folders;
 use std::alloc::Global;
 use std::sync::Wait;

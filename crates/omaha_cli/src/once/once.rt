@@ -1,10 +1,10 @@
 // The command `once`: a reply to the one request that a reader holds.
 
 ghost use Rattle.omaha_commands.specs.Streams.{Streams};
-ghost use Rattle.omaha_once.specs.Once.{Replies, Responds};
+ghost use Rattle.omaha_cli.specs.Once.{Replies, Responds};
 
-use crate::answering::answer;
-use crate::error::AnswerError;
+use crate::once::answering::answer;
+use crate::once::error::AnswerError;
 use omaha_arguments::Once;
 use omaha_commands::{Failure, open_service};
 use service_desks::Service;

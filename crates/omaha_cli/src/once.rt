@@ -6,12 +6,10 @@
 //!
 //! It serves no connection.
 
-#![tactic(auto)]
-
 mod answering;
 mod error;
 mod once;
 
-pub use crate::answering::answer;
-pub use crate::error::AnswerError;
-pub use crate::once::respond;
+pub use crate::once::answering::answer;
+pub use crate::once::error::AnswerError;
+pub use crate::once::once::respond;

@@ -4,9 +4,9 @@ ghost use Rattle.std.specs.Prelude.{◌≡◌, ◌∷◌, [], true, List, IfOk, 
 ghost use Rattle.catalogue.specs.Histories.{History};
 ghost use Rattle.mirror_ledger.specs.Asks.{Ask};
 ghost use Rattle.publisher.specs.Sights.{fresh};
-ghost use Rattle.omaha_once.specs.Answering.{Answers, IsRepliedAlone, RepliesFor};
+ghost use Rattle.omaha_cli.specs.Answering.{Answers, IsRepliedAlone, RepliesFor};
 
-use crate::error::AnswerError;
+use crate::once::error::AnswerError;
 use editions::Edition;
 use http_desks::Off;
 use mirror_ledger::{Till, Work, work_with_tills};
