@@ -1,5 +1,5 @@
 #!/usr/bin/env python3
-"""Compares the tables of the crate `corpus` with the files of `tests/corpus/`.
+"""Compares the tables of the crate `fixtures` with the files of `tests/corpus/`.
 
     tests/corpus.py            compares them; exits with 1 if they differ
     tests/corpus.py --write    writes the tables

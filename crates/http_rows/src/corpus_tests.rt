@@ -4,7 +4,7 @@ ghost use Rattle.std.specs.Prelude.{codes};
 
 use crate::desks::{ABC, FILES};
 use crate::writers::STOPPED;
-use corpus::{HEADS, case_of};
+use fixtures::{HEADS, case_of};
 use http_desks::{Answer, Declared, Desk, DeskStatus, Off, Page};
 use http_memory::Connection;
 use http_sessions::serve;

@@ -1,6 +1,6 @@
 // The bodies of the corpus: what each is read as.
 
-use corpus::{REPLIES, REQUESTS, case_of};
+use fixtures::{REPLIES, REQUESTS, case_of};
 use omaha_json::{read_reply, read_request};
 use std::alloc::Global;
 use values::ReadError;

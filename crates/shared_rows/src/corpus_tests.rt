@@ -1,7 +1,7 @@
 // The scripts and raises of the corpus, each sent to the desk of an operator of its profile.
 
 use crate::desk::{push_body, replies_to};
-use corpus::{Case, SCRIPTS, SERVED, case_of};
+use fixtures::{Case, SCRIPTS, SERVED, case_of};
 use std::alloc::Global;
 use std::sync::Wait;
 use std::thread::Threads;
