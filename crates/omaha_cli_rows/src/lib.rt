@@ -2,6 +2,10 @@
 //!
 //! It has tests alone, so that `omaha_cli` itself is proved once. What the program does is in the files of `tests/rows/`,
 //! which `make test` gives to the built program.
+//!
+//! Worked rows of `serve` of `omaha_server`: each byte of its connections, over ports in memory.
+//!
+//! It has tests alone, so that `omaha_server` is proved once.
 
 #![tactic(auto)]
 
@@ -14,6 +18,12 @@ mod failing_tests;
 #[cfg(test)]
 mod offers;
 #[cfg(test)]
+mod rooms;
+#[cfg(test)]
+mod served_tests;
+#[cfg(test)]
 mod service_tests;
 #[cfg(test)]
 mod staged;
+#[cfg(test)]
+mod turns;
