@@ -1,7 +1,5 @@
-//! What holds over whole histories of batches, and of whole contents, each law as the contract of a
-//! function that does nothing when it runs.
-//!
-//! A crate that needs a law calls its function.
+//! What holds over whole histories of batches, and of whole contents, each law as the contract of a function that does
+//! nothing when it runs. A crate that needs a law calls its function.
 
 ghost use Rattle.catalogue.specs.ContentExamples.{SmallContentHasItsEdits};
 ghost use Rattle.catalogue.specs.Contents.{ContentsAreMade};

@@ -1,13 +1,13 @@
 //! Requests and replies of the Omaha protocol 3.1, JSON form, and their bytes.
 //!
-//! A `Request` is what a client asks, a `Reply` what the server replies; both are plain records,
-//! which contracts compare by content. `specs/RequestReading.antt` says which record the bytes of a
-//! request have, or their first fault, and `specs/ReplyWriting.antt` which bytes a reply has. A
-//! reply is written by serde, and needs no tree of JSON values. `laws` has whole requests and
-//! replies with their records.
+//! A `Request` is what a client asks, a `Reply` what the server replies; both are plain records, which contracts
+//! compare by content. `specs/RequestReading.antt` says which record the bytes of a request have, or their first fault,
+//! and `specs/ReplyWriting.antt` which bytes a reply has. A reply is written by serde, and needs no tree of JSON
+//! values. `laws` has whole requests and replies with their records.
 //!
-//! It does not decide the reply to a request: `replies` does. It does not write requests or read
-//! replies: `omaha_json` does.
+//! `client` has the other half: what an update client writes and reads.
+//!
+//! It does not decide the reply to a request, nor what a client does with one: `replies` and `update_client` do.
 
 #![tactic(auto)]
 
