@@ -2,19 +2,21 @@
 //!
 //! `LoggedPort` is a port over another one of `http_ports`, whose replies it logs. A reply is what is sent from one
 //! timestamp at which a message may begin up to the next one, or to the connection's end. Once it is done, its line is
-//! sent to the log's writer by a `LineSender` of `access_logs`, or counted as lost: read `specs/Replies.antt`,
-//! `specs/Entries.antt` and `specs/Logs.antt`. The `Places` of its slots are made before, so that it begins without
-//! memory.
+//! sent to the log's writer by a `LineSender`, or counted as lost: read `specs/Replies.antt`, `specs/Entries.antt` and
+//! `specs/Logs.antt`. The `Places` of its slots are made before, so that it begins without memory.
 //!
 //! `AccessLog` is a `Watch` of a server's connections, one after the other, and `ReplyLog` one of many that are open at
-//! once, of each of which it keeps what it has `Seen`. Once a reply has been written, it writes a line: the
-//! address, the time, the first line of the message, the status, how many bytes the body of the reply had, the
-//! referrer and the program that asked. Every byte that is not printable ASCII is printed as `\x` and two digits, and
-//! so are a quote and a backslash.
+//! once, of each of which it keeps what it has `Seen`. Once a reply has been written, it writes a line: the address,
+//! the time, the first line of the message, the status, how many bytes the body of the reply had, the referrer and the
+//! program that asked. Every byte that is not printable ASCII is printed as `\x` and two digits, and so are a quote and
+//! a backslash.
 //!
-//! It holds up no reply and rejects none: a line that can't be written is lost, and so is one that memory is
-//! lacking for. Read `specs/Lines.antt` for the bytes of a line. Of these two logs it is tested and not proved which
-//! message a line is of; its time is tested of all.
+//! It holds up no reply and rejects none: a line that can't be written is lost, and so is one that memory is lacking
+//! for. Read `specs/Lines.antt` for the bytes of a line. Of these two logs it is tested and not proved which message a
+//! line is of; its time is tested of all.
+//!
+//! `queues` has the lines of a log on their way to a thread that writes them. A sender waits for nobody: a line goes
+//! into its ring of bytes whole, or is counted as lost.
 //!
 //! `LastReply` says of a connection's last reply whether it has fewer bytes than its head says.
 

@@ -1,12 +1,15 @@
 //! The records of servers that share a history in etcd, over its JSON gateway.
 //!
-//! An `EtcdRecords` posts requests by a `Gateway`, which carries each once to some server: this crate has no network of
-//! its own. It opens the history whose keys begin with a prefix, and returns its records. Then it appends and reads as
-//! `Records` does, each request posted again until a server replies. Read `specs/Keys.antt` and `specs/Requests.antt`:
-//! what etcd keeps, and what it is asked; then `specs/Appending.antt`: what a call comes to by the replies. `laws` says
-//! that servers which share a history know one history.
+//! An `EtcdRecords` posts requests by a `Gateway`, which carries each once to some server: the records know no network.
+//! It opens the history whose keys begin with a prefix, and returns its records. Then it appends and reads as `Records`
+//! does, each request posted again until a server replies. Read `specs/Keys.antt` and `specs/Requests.antt`: what etcd
+//! keeps, and what it is asked; then `specs/Appending.antt`: what a call comes to by the replies. `laws` says that
+//! servers which share a history know one history.
 //!
 //! A `MemoryGateway` is for tests: it understands the requests, and a list of `EtcdTurn`s says what happens to each.
+//!
+//! `paths` reads the path of a history in etcd. `gateways` has the `Gateway` over TCP, and opens histories in etcd
+//! beside those in files.
 //!
 //! It doesn't know what a record says. It can't know whether etcd keeps what it replied to, nor whether somebody
 //! deletes the keys.

@@ -5,6 +5,9 @@
 //! `http_desks`, each as far as its bytes have come and its peer takes the replies: read `specs/Ports.antt`,
 //! `specs/Speech.antt` and `specs/Loops.antt`. A `WatchEach` is shown what passes on each, by a protocol that says so.
 //!
+//! `books` keeps what has passed at a port, which contracts see: so a port over devices whose bytes no contract knows
+//! has exact traffic.
+//!
 //! It knows no socket, no HTTP and no clock: a port says which connections are late, and at which time a protocol goes
 //! on, and a protocol what bytes mean.
 

@@ -1,8 +1,8 @@
 //! The program `omaha`, but for its `main`: an update server, checks of profiles, and a client.
 //!
-//! `run` carries out the command that `omaha_arguments` reads, reports how it ended and returns the exit
-//! status: read `specs/Running.antt`. `serve` is served by `omaha_server`: read `specs/Serving.antt`. `once` is
-//! `omaha_cli::respond`, `history` is `omaha_histories::print_history`, and all others are those of `omaha_commands`.
+//! `run` carries out the command that `omaha_arguments` reads, reports how it ended and returns the exit status: read
+//! `specs/Running.antt`. `serve` is served by `omaha_server`: read `specs/Serving.antt`. `once` is `respond`: read
+//! `specs/Once.antt`. `history` is `omaha_histories::print_history`, and all others are those of `omaha_commands`.
 
 #![tactic(auto)]
 

@@ -1,11 +1,8 @@
-//! Calls of the program's library: services, replies over readers and writers that fail, and explanations.
+//! Calls of the program's library: services, replies over readers and writers that fail, explanations, and `serve` with
+//! each byte of its connections, over ports in memory.
 //!
-//! It has tests alone, so that `omaha_cli` itself is proved once. What the program does is in the files of `tests/rows/`,
-//! which `make test` gives to the built program.
-//!
-//! Worked rows of `serve` of `omaha_server`: each byte of its connections, over ports in memory.
-//!
-//! It has tests alone, so that `omaha_server` is proved once.
+//! It has tests alone, so that `omaha_cli` and `omaha_server` are proved once. What the program does is in the files of
+//! `tests/rows/`, which `make test` gives to the built program.
 
 #![tactic(auto)]
 

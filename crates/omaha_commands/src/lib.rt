@@ -9,8 +9,12 @@
 //!
 //! `walk_on` is walked by `update_client`: read `specs/Walking.antt`; `publish_on`, `raise_on`, `dump_on` and
 //! `status_on` post by it: read `specs/Operating.antt`, for a script that is only checked `specs/Judging.antt`, and for
-//! its packages `specs/Stocking.antt`. `stop_on` also waits for the end of a server: read `specs/Stopping.antt`. `print`
-//! writes what a command found. A `Failure` is why a command fails, and a `HistoryFault` what is wrong with a history.
+//! its packages `specs/Stocking.antt`. `stop_on` also waits for the end of a server: read `specs/Stopping.antt`.
+//! `print` writes what a command found. A `Failure` is why a command fails, and a `HistoryFault` what is wrong with a
+//! history.
+//!
+//! `reports` has what is reported of an edition, and the check of a table by several threads; `explanations` what codes
+//! and words mean.
 //!
 //! It reads no arguments, and exits with no status.
 

@@ -2,8 +2,8 @@
 //!
 //! `summary` counts what an edition has, `certify` writes the certificate of a track that is chosen by names, and
 //! `verify` says whether a certificate is valid. Read `specs/Summaries.antt` and `specs/Certificates.antt`.
-//! `check_parallel` returns what `price_cert::check` does, in both outcomes; `specs/Pieces.antt` has the pieces in which
-//! threads test the rows.
+//! `check_parallel` returns what `price_cert::check` does, in both outcomes; `specs/Pieces.antt` has the pieces in
+//! which threads test the rows.
 //!
 //! It reads no file, prints nothing, finds no prices, and has no rule of its own.
 

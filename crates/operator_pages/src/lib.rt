@@ -1,9 +1,12 @@
-//! The pages that an operator's address serves: its health, its metrics, and a page of the published edition for people.
+//! The pages that an operator's address serves: its health, its metrics, and a page of the published edition for
+//! people.
 //!
 //! `page_at` finds the page of a path, and makes it of what is `Shown`: the apps of the published catalogue with an
-//! `AppSight` each, the edition's number, the mirrors with their present budgets, the `Counts` of the operator's own calls
-//! and the last `Publishes`. `health_string`, `metrics_string` and `page_string` make the bodies. Read `specs/Paths.antt`,
-//! `specs/Metrics.antt` and `specs/Pages.antt`.
+//! `AppSight` each, the edition's number, the mirrors with their present budgets, the `Counts` of the operator's own
+//! calls and the last `Publishes`. `health_string`, `metrics_string` and `page_string` make the bodies. Read
+//! `specs/Paths.antt`, `specs/Metrics.antt` and `specs/Pages.antt`.
+//!
+//! `app_sights` makes what is shown of the releases of each app: the clients who are stuck, and a picture.
 //!
 //! It knows no connection, changes nothing, and reads no clock.
 

@@ -1,14 +1,17 @@
-//! Reviews: which clients of a catalogue are stuck and why, and what a change makes of them.
+//! Reviews: which clients of a catalogue are stuck and why, and what a change makes of them; and pictures of both.
 //!
 //! A `TrackReview` says of a track with a target where the clients at each release are, its `Outcome`: at the target,
-//! before a chain of the least sum, or stuck for a `Reason`. `review_catalogue` makes one for each track. A reason
-//! is the first of the rules, the `Cause`s, without which the release would have a chain. `changes` compares the reviews
-//! of two catalogues. `write_review`, `write_changes` and `write_warnings` write them as lines,
-//! `write_review_objects` and `write_change_objects` as JSON. Read
-//! `specs/Reviews.antt` for what a review says, `specs/Reasons.antt` for reasons, `specs/Steps.antt` for the steps of
-//! chains, `specs/Lifts.antt` for tracks without a rule and `specs/Changes.antt` for changes; `specs/Routes.antt` has the
-//! ways by which a track without a rule is searched, `specs/ReviewLines.antt`, `specs/ChangeLines.antt` and
-//! `specs/Warnings.antt` the lines, `specs/Objects.antt` and `specs/ChangeObjects.antt` the JSON objects.
+//! before a chain of the least sum, or stuck for a `Reason`. `review_catalogue` makes one for each track. A reason is
+//! the first of the rules, the `Cause`s, without which the release would have a chain. `changes` compares the reviews
+//! of two catalogues. `write_review`, `write_changes` and `write_warnings` write them as lines, `write_review_objects`
+//! and `write_change_objects` as JSON. Read `specs/Reviews.antt` for what a review says, `specs/Reasons.antt` for
+//! reasons, `specs/Steps.antt` for the steps of chains, `specs/Lifts.antt` for tracks without a rule and
+//! `specs/Changes.antt` for changes; `specs/Routes.antt` has the ways by which a track without a rule is searched,
+//! `specs/ReviewLines.antt`, `specs/ChangeLines.antt` and `specs/Warnings.antt` the lines, `specs/Objects.antt` and
+//! `specs/ChangeObjects.antt` the JSON objects.
+//!
+//! `pictures` draws the releases of an app with what its reviews say, as SVG and as Graphviz DOT. `markup` has strings
+//! as XML and HTML have them.
 //!
 //! It reads no file, prints nothing, and decides no offer.
 

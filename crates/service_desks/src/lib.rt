@@ -3,11 +3,13 @@
 //!
 //! `reply_to` replies to a request from an edition. It asks a `Till` of `mirror_ledger` for each payload that the reply
 //! offers, and offers nothing that no mirror granted: read `specs/Asking.antt` and `specs/Answering.antt`.
-//! `find_package` finds what a catalogue declares of a package. A `Worker` is the `Desk` of `http_desks` that enters the
-//! published edition for each request, and replies from that edition alone: read `specs/Entries.antt` and
+//! `find_package` finds what a catalogue declares of a package. A `Worker` is the `Desk` of `http_desks` that enters
+//! the published edition for each request, and replies from that edition alone: read `specs/Entries.antt` and
 //! `specs/Workers.antt`. Its counter is shown what each update check came to: read `specs/Counting.antt`. An `Operator`
-//! is the desk that borrows the press and the budgets, and adopts what other servers published of the same history: read
-//! `specs/Scripts.antt`, `specs/Raises.antt`, `specs/Following.antt` and `specs/Operators.antt`.
+//! is the desk that borrows the press and the budgets, and adopts what other servers published of the same history:
+//! read `specs/Scripts.antt`, `specs/Raises.antt`, `specs/Following.antt` and `specs/Operators.antt`.
+//!
+//! `services` makes the service of a profile: an edition, and the mirrors of its packages.
 //!
 //! It opens no press and no books, reads no stream and starts no session.
 

@@ -1,7 +1,7 @@
 //! What a server asks of the system: ports, a log and a folder of packages.
 //!
 //! A `System` opens ports and serves them. Its relations name addresses, folders and logs: read `specs/Edges.antt` and
-//! `specs/NewPorts.antt`. `Sockets` is the real one, over the ports of `systems`.
+//! `specs/NewPorts.antt`. `Sockets` is the real one, over the ports of `mio_ports`, which wait for no socket alone.
 //!
 //! It knows no service and no desk.
 

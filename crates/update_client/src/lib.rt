@@ -1,15 +1,18 @@
 //! A client that asks a server for updates and installs nothing but what it was offered.
 //!
-//! `Link` is what carries bytes from a server, `Installer` what keeps them. `install` stages one file block by block under
-//! a running SHA-256 and commits it only if its length and its digest are those that were offered; else the installer
-//! discards what was staged. `Client::walk` asks, installs what is offered, and asks again until there is no update. Read
-//! `specs/Installing.antt`, then `specs/Clients.antt` and `specs/Walks.antt`.
+//! `Link` is what carries bytes from a server, `Installer` what keeps them. `install` stages one file block by block
+//! under a running SHA-256 and commits it only if its length and its digest are those that were offered; else the
+//! installer discards what was staged. `Client::walk` asks, installs what is offered, and asks again until there is no
+//! update. Read `specs/Installing.antt`, then `specs/Clients.antt` and `specs/Walks.antt`.
 //!
 //! `HttpLink` is the `Link` over TCP, a connection for each post and each download, with a time limit for each post and
-//! each 64 KiB of a download. `post_over` and `open_over` do so over any source and sink, and `post_to` returns replies of any status: read
-//! `specs/Replies.antt` and `specs/Bodies.antt`. `walk_app` walks and prints a line for each step, `walk_app_at` of a
-//! `Connector` does so over TCP, and `operate_at` posts to an operator's listener, whose end `is_gone` sees: read
-//! `specs/Lines.antt`, `specs/Walking.antt` and `specs/Endings.antt`.
+//! each 64 KiB of a download. `post_over` and `open_over` do so over any source and sink, and `post_to` returns replies
+//! of any status: read `specs/Replies.antt` and `specs/Bodies.antt`. `walk_app` walks and prints a line for each step,
+//! `walk_app_at` of a `Connector` does so over TCP, and `operate_at` posts to an operator's listener, whose end
+//! `is_gone` sees: read `specs/Lines.antt`, `specs/Walking.antt` and `specs/Endings.antt`.
+//!
+//! `heads` has the head of a reply as a client reads it, and the requests that a client sends; `chunked` has the body
+//! of a reply in the chunked transfer coding.
 //!
 //! It keeps no file, follows no redirect, reads no arguments, and looks for no server.
 
