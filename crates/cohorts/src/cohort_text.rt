@@ -3,7 +3,7 @@ ghost use Rattle.std.specs.Char.{is_ascii_digit};
 ghost use Rattle.std.specs.List.{list_all};
 ghost use Rattle.cohorts.specs.CohortTexts.{bucket_of, has_leading_zero, is_bucket, parsed, printed};
 
-use catalogue::is_cohort_name;
+use catalogue::form::is_cohort_name;
 use std::alloc::{AllocError, Global};
 use values::Text;
 
