@@ -12,7 +12,7 @@ import sys
 
 from fuzzing import corpus
 
-SOURCES = corpus.TOP / "crates" / "corpus" / "src"
+SOURCES = corpus.TOP / "crates" / "fixtures" / "src" / "corpus"
 # (`tests/rows/` gives profiles and certificates to the program)
 KINDS = ["requests", "replies", "scripts", "heads"]
 # a piece that comes at least four times
