@@ -1,7 +1,7 @@
 //! Worked rows of tables of prices: made and checked by several threads, and kept by editions; and of plans of clients
 //! with pins; reviews of small catalogues, and the pages of an operator.
 //!
-//! It has tests alone, so that `par_tables`, `reports`, `reviews`, `tallies`, `operator_pages`, `editions`
+//! It has tests alone, so that `par_tables`, `omaha_commands`, `reviews`, `tallies`, `operator_pages`, `editions`
 //! and `replies` are proved once. Catalogues are made of scripts.
 
 #![tactic(auto)]
