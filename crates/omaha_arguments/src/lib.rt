@@ -1,13 +1,12 @@
 //! The arguments of the program `omaha`: what they ask it to do.
 //!
-//! `read_arguments` reads them with `clap` and gives an `Invocation`, or why there is none: the help or the
-//! version was asked for, or they are invalid. What they mean is said by `specs/Commands.antt` and, for the
-//! commands that report on a profile, `specs/ReportArguments.antt`; for `serve`, `specs/ServeArguments.antt`; for
-//! `publish`, `raise`, `dump` and `status`, `specs/OperatorArguments.antt`; for `stop`, `specs/StopArguments.antt`; for
-//! `script`, `specs/ScriptArguments.antt`; for `history`, `specs/HistoryArguments.antt`; for `review`,
-//! `specs/ReviewArguments.antt`; for `graph`, `specs/GraphArguments.antt`;
-//! for `walk`, `specs/WalkArguments.antt`. The path of a history may be one of `etcd_records`. How they are rejected is said
-//! by `specs/Errors.antt`.
+//! `read_arguments` reads them with `clap` and gives an `Invocation`, or why there is none: the help or the version was
+//! asked for, or they are invalid. What they mean is said by `specs/Commands.antt` and, for the commands that report on
+//! a profile, `specs/ReportArguments.antt`; for `serve`, `specs/ServeArguments.antt`; for `publish`, `raise`, `dump`
+//! and `status`, `specs/OperatorArguments.antt`; for `stop`, `specs/StopArguments.antt`; for `script`,
+//! `specs/ScriptArguments.antt`; for `history`, `specs/HistoryArguments.antt`; for `review`,
+//! `specs/ReviewArguments.antt`; for `graph`, `specs/GraphArguments.antt`; for `walk`, `specs/WalkArguments.antt`. The
+//! path of a history may be one of `etcd_records`. How they are rejected is said by `specs/Errors.antt`.
 //!
 //! It opens no file and carries nothing out.
 

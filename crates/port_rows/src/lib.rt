@@ -1,5 +1,6 @@
-//! Rows of connections: `http_ports::run` serves the peers of a script of `http_memory` by the sessions of `http_sessions`.
-//! Others are over the loopback: clients of a port, posts and downloads by a client, and a client whose devices fail.
+//! Rows of connections: `http_ports::run` serves the peers of a script of `http_memory` by the sessions of
+//! `http_sessions`. Others are over the loopback: clients of a port, posts and downloads by a client, and a client
+//! whose devices fail.
 //!
 //! Each row says what peers send and how they behave, and then how each connection ends and what its peer gets.
 //!
