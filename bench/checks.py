@@ -24,7 +24,7 @@ import tempfile
 import graphs
 import publisher
 
-LINE = "check_times: reports solver price_cert payload_graph catalogue cohorts values\n"
+LINE = "check_times: omaha_commands solver price_cert payload_graph catalogue cohorts values\n"
 HEAD = r"""//! Checks a table of prices again and again.
 
 #![tactic(auto)]

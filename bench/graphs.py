@@ -39,7 +39,7 @@ import sys
 import tempfile
 
 TOP = pathlib.Path(__file__).resolve().parent.parent
-CRATES = ["values", "version", "records", "omaha_json", "catalogue", "cohorts", "payload_graph", "price_cert", "solver", "par_tables"]
+CRATES = ["values", "worker_threads", "omaha_json", "catalogue", "cohorts", "payload_graph", "price_cert", "solver", "par_tables"]
 LINE = "graph_times: par_tables solver price_cert payload_graph catalogue cohorts values\n"
 PATTERNS = ("none", "one", "second", "before", "8th", "64th", "half", "worst", "down", "above")
 # functions that make edits, which another benchmark uses, too
