@@ -212,7 +212,7 @@ def main():
     asked = options.parse_args()
     folder = pathlib.Path(asked.keep or tempfile.mkdtemp()).resolve()
     try:
-        program = publisher.build(folder, "check_times", "reports solver", LINE, HEAD + graphs.EDITS + BODY)
+        program = publisher.build(folder, "check_times", "omaha_commands solver", LINE, HEAD + graphs.EDITS + BODY)
         last = asked.releases - 1
         tables = (("valid", asked.releases), ("below the target", last - 1), ("in the middle", last // 2), ("at the lowest", 0))
         one = {max(os.sched_getaffinity(0))}
