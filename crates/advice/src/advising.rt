@@ -13,7 +13,7 @@ ghost use Rattle.streams.specs.Reading.{IsWhole};
 
 use crate::documents::{MAX_FILE, Trouble};
 use crate::looks::{Aim, Looks, address_advice, look_again};
-use crate::replies::{explained, path_said, reply_advice};
+use crate::replied::{explained, path_said, reply_advice};
 use crate::sources::{aim_of, profile_path, script_path};
 use crate::tables::Kind;
 use catalogue::{Batch, Catalogue, Refused};

@@ -12,11 +12,11 @@ mod entries;
 mod faults;
 mod looks;
 mod places;
-mod replies;
+mod replied;
 mod sources;
 mod spots;
 mod tables;
 
 pub use crate::advising::advice_on;
 pub use crate::looks::{Aim, Looks, Seen};
-pub use crate::replies::reply_advice;
+pub use crate::replied::reply_advice;
