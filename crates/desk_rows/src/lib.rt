@@ -1,5 +1,5 @@
 //! Worked rows of what a server's workers do: messages and sessions with their replies, what a worker's desk replies,
-//! and the gate of a server's workers.
+//! and the gate of a server's workers; and what the connections of `tests/corpus/` get.
 //!
 //! It has tests alone, so that `service_desks` and `omaha_server` are proved once.
 
@@ -11,6 +11,8 @@ mod answers;
 mod at_once;
 #[cfg(test)]
 mod budget_tests;
+#[cfg(test)]
+mod corpus_tests;
 #[cfg(test)]
 mod counting;
 #[cfg(test)]

@@ -10,8 +10,6 @@ mod address_tests;
 #[cfg(test)]
 mod body_tests;
 #[cfg(test)]
-mod corpus_tests;
-#[cfg(test)]
 mod desks;
 #[cfg(test)]
 mod device_tests;

@@ -15,8 +15,6 @@ mod body;
 #[cfg(test)]
 mod client_requests;
 #[cfg(test)]
-mod corpus_tests;
-#[cfg(test)]
 mod countdown;
 #[cfg(test)]
 mod failing_walks;

@@ -1,5 +1,5 @@
 //! Worked rows of what a server decides: clients with their tracks, requests with their replies, histories of
-//! batches, and what is published of them.
+//! batches, and what is published of them; and what the hostile bodies of `tests/corpus/` are read as.
 //!
 //! It has tests alone, so that `cohorts`, `editions`, `publisher` and `replies` are proved once. A row is a line; that
 //! of a reply has the reply, a bar, and what is asked.
@@ -16,6 +16,8 @@ mod bodies;
 mod chains;
 #[cfg(test)]
 mod cohort_texts;
+#[cfg(test)]
+mod corpus_tests;
 #[cfg(test)]
 mod crossing;
 #[cfg(test)]

@@ -2,14 +2,32 @@
 
 ghost use Rattle.std.specs.Prelude.{codes};
 
-use crate::desks::{ABC, FILES};
-use crate::writers::STOPPED;
 use fixtures::{HEADS, case_of};
 use http_desks::{Answer, Declared, Desk, DeskStatus, Off, Page};
-use http_memory::Connection;
+use http_memory::{Connection, Content, File, FixedClock, Shelf};
 use http_sessions::serve;
 use std::alloc::{AllocError, Global};
 use std::str;
+
+// 09:30:05 on 24 November 2026.
+const STOPPED: FixedClock = FixedClock {
+    seconds: 1_795_512_605,
+};
+
+// The SHA-256 of `abc`, as FIPS 180 has it.
+const ABC: [u8; 32] = [
+    0xba, 0x78, 0x16, 0xbf, 0x8f, 0x01, 0xcf, 0xea, 0x41, 0x41, 0x40, 0xde, 0x5d, 0xae, 0x22, 0x23,
+    0xb0, 0x03, 0x61, 0xa3, 0x96, 0x17, 0x7a, 0x9c, 0xb4, 0x10, 0xff, 0x61, 0xf2, 0x00, 0x15, 0xad,
+];
+
+// The file of the one package that has one.
+const FILES: Shelf<'static> = Shelf {
+    files: &[File {
+        name: b"mini-1.0.bin",
+        content: Content::Bytes(b"abc"),
+        readable: 3,
+    }],
+};
 
 // Replies to a body of JSON with an app, and to no other; knows two packages, of which `demo-1.0.bin` has no file.
 #[derive(Drop)]
