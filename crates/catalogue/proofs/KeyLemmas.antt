@@ -8,7 +8,7 @@ use Rattle.catalogue.specs.Versions.{is_below}
 use Rattle.catalogue.specs.Lookups.{Pair, is_pair_below, same_pair}
 use Rattle.values.specs.Ordered.{IsOrder}
 
--- what the crate of versions promises of their order
+-- what the laws of versions say of their order
 pub record VersionLaws : Type 0 where
   pub irreflexive : BelowIsIrreflexive
   pub transitive : BelowIsTransitive

@@ -5,7 +5,7 @@
 //! profile has, `specs/WrittenProfiles.antt` what its bytes are and are read as, and `laws` that a content has one
 //! such profile.
 //!
-//! The kit's `toml` prints the document. This crate does not read profiles: `profile_toml` does.
+//! The kit's `toml` prints the document. It reads no profile: the root of the crate does.
 
 mod app;
 mod cohort;
