@@ -1,7 +1,7 @@
 -- Versions and pairs of versions are ordered.
 use Rattle.std.proofs.Common.{◌≡◌, ℕ, ◌&&◌, ◌||◌, Bool, true, false, List, refl, ap, sym, ◌∙◌}
 use Rattle.std.specs.Str.{bytes_eq}
-use Rattle.std.proofs.lemmas.Bool.{and_from, and_parts, false≢true, or_parts}
+use Rattle.std.proofs.lemmas.Bool.{and_from, and_parts, or_parts}
 use Rattle.std.proofs.lemmas.Slice.Eq.{bytes_eq-Decides}
 use Rattle.catalogue.specs.VersionLaws.{BelowIsIrreflexive, BelowIsTotal, BelowIsTransitive}
 use Rattle.catalogue.specs.Versions.{is_below}

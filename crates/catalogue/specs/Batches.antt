@@ -1,6 +1,6 @@
 -- What a batch of edits makes of a content: each edit is accepted after those before it, or the
 -- whole batch counts for nothing; this project's profile.
-use Rattle.std.specs.Prelude.{ℕ, ◌+◌, ◌≡◌, List, [], ◌∷◌, Option, Some, None, Result, Ok, Err}
+use Rattle.std.specs.Prelude.{ℕ, ◌+◌, List, [], ◌∷◌, Option, Some, None, Result, Ok, Err}
 use Rattle.catalogue.specs.Edits.{after, fault_of}
 use Rattle.catalogue.specs.declared.content.App.{App}
 use Rattle.catalogue.specs.declared.edit.Edit.{Edit}

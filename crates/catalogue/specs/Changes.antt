@@ -1,5 +1,5 @@
 -- The kinds of change that an edit may make of a content, an equation each; this project's profile.
-use Rattle.std.specs.Prelude.{ℕ, Bool, false, List, [], ◌∷◌, ◌++◌, if◌then◌else◌, None}
+use Rattle.std.specs.Prelude.{ℕ, false, List, [], ◌∷◌, ◌++◌, None}
 use Rattle.catalogue.specs.Versions.{is_below, lenient_version_of, zero_version}
 use Rattle.catalogue.specs.Forms.{hash_named}
 use Rattle.catalogue.specs.Lookups.{is_app, is_cohort, is_pair_below, is_release, pair_of}

@@ -1,5 +1,5 @@
 -- What is known of a setting that a cohort may be given.
-use Rattle.std.proofs.Common.{◌≡◌, ℕ, true, false, not, nat_le, List, Option, Some, None, refl, option_map}
+use Rattle.std.proofs.Common.{◌≡◌, ℕ, true, false, not, List, Option, Some, None, refl, option_map}
 use Rattle.std.specs.Option.{is_none}
 use Rattle.std.proofs.lemmas.Bool.{or_parts}
 use Rattle.catalogue.specs.Versions.{lenient_version_of}
@@ -8,7 +8,6 @@ use Rattle.catalogue.proofs.ValidCohortLemmas.{ValidCohort-from_test, is_valid_c
 use Rattle.catalogue.specs.Changes.{with_setting}
 use Rattle.catalogue.specs.Edits.CohortSettings.{is_unreleased, setting_of_set_target, tests_of_set_open, tests_of_set_rollback, tests_of_set_share, tests_of_set_target}
 use Rattle.catalogue.specs.Faults.{first_fault}
-use Rattle.catalogue.specs.Limits.{max_share}
 use Rattle.catalogue.specs.Lookups.{app_of, cohorts_of, has_cohort}
 use Rattle.catalogue.specs.Validity.{is_valid_cohort, is_released}
 use Rattle.catalogue.specs.declared.content.App.{App}

@@ -2,7 +2,7 @@
 use Rattle.std.proofs.Common.{◌≡◌, ◌<◌, true, false, not, List, length, Some, None}
 use Rattle.std.specs.Option.{is_none}
 use Rattle.std.proofs.lemmas.Bool.{leb-false, or_parts}
-use Rattle.catalogue.specs.Versions.{is_below, version_of, lenient_version_of}
+use Rattle.catalogue.specs.Versions.{is_below, lenient_version_of}
 use Rattle.catalogue.proofs.AcceptedLemmas.{None-from_not_some, NoneHold-first_fault, Some-from_not_none, true-from_not}
 use Rattle.catalogue.specs.Changes.{new_diff}
 use Rattle.catalogue.specs.Edits.Diffs.{tests_of_add_diff}

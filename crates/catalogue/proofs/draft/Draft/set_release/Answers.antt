@@ -1,4 +1,4 @@
-use Rattle.std.proofs.Common.{◌≡◌, ◌∙◌, ap, sym, refl, List, ℕ}
+use Rattle.std.proofs.Common.{◌≡◌, ◌∙◌, ap, sym, List, ℕ}
 use Rattle.catalogue.specs.Versions.{lenient_version_of}
 use Rattle.catalogue.proofs.PackageLemmas.{declared_of-kept_in_release}
 use Rattle.catalogue.specs.Changes.{in_release, with_release_setting}
