@@ -13,7 +13,7 @@
 # make history       kills a server with a history 500 times while it publishes, after make install, and looks
 #                    for what it replied to
 # make cluster       tests three servers of one history in etcd, after make install; it needs etcd-server and nginx
-# make install       proves, builds and installs the program below PREFIX
+# make install       proves, builds and installs the program below PREFIX; what make test proved isn't proved again
 # make deb           builds a Debian package of the program, after make install, and tests it; it needs
 #                    systemd, and root or fakeroot
 # make allocations   runs the program, after make install, and the tests of single calls without
@@ -27,8 +27,6 @@
 # make instructions  counts the instructions of a reply, after make install; it needs valgrind
 
 PREFIX ?= /usr/local
-
-JOBS ?= $(shell nproc)
 
 # what follows `mutants` are names of crates, and no targets
 ifeq (mutants,$(firstword $(MAKECMDGOALS)))
@@ -78,9 +76,8 @@ cluster:
 	tests/cluster.py
 
 install:
-	@echo "proves the libraries of the program, $(JOBS) side by side; about an hour on four processors the first time"
-	cd crates/omaha && rt all check --jobs $(JOBS)
-	cd crates/omaha && rt run < stdin
+	@echo "proves the libraries of the program side by side; about an hour on four processors if nothing is proved yet"
+	packaging/build.py
 	install -d $(DESTDIR)$(PREFIX)/bin
 	install -m 755 crates/omaha/out/omaha $(DESTDIR)$(PREFIX)/bin/omaha
 
