@@ -6,7 +6,7 @@ ghost use Rattle.sqlite.specs.State.{HasCleanDisk, Opens};
 
 use crate::calls::follows;
 use history::History;
-use kept_records::{AppendFault, Kind, OpenFault, Record, Records};
+use kept_records::{AppendFault, Kind, Record, Records};
 use sqlite::{Connection, FileStore, Files, Options};
 use sqlite_disk::{Crash, Fuse, Memory};
 use std::alloc::Global;
@@ -30,25 +30,6 @@ impl Drop for Disk {
     }
 }
 
-/// What an open found.
-#[derive(Drop)]
-pub struct Found {
-    /// The records, if it succeeded.
-    pub records: Vec<Record>,
-    /// Why it failed.
-    pub fault: Option<OpenFault>,
-}
-
-impl Found {
-    /// Nothing, so far.
-    pub fn new(alloc: Global) -> Found {
-        Found {
-            records: Vec::new(alloc),
-            fault: None,
-        }
-    }
-}
-
 // Opens the database in two files.
 fn connect(alloc: Global, files: Files<Fused>) -> Option<Connection<FileStore<Fused>>>
     ensures { IfSome result (λ conn. HasCleanDisk (file_state conn) → Opens (file_state conn)) }
@@ -60,11 +41,6 @@ fn connect(alloc: Global, files: Files<Fused>) -> Option<Connection<FileStore<Fu
         Ok(conn) => Some(conn),
         Err(_) => None,
     }
-}
-
-// Whether the statements run.
-fn runs(conn: &mut Connection<FileStore<Fused>>, sql: &str) -> bool {
-    conn.execute_batch(sql).is_ok()
 }
 
 impl Disk {
@@ -82,15 +58,6 @@ impl Disk {
     fn into_files(self) -> Files<Fused> {
         let Disk { files } = self;
         files
-    }
-
-    /// The files of a database that these statements make.
-    pub fn made(alloc: Global, table: &str, rest: &str) -> Option<Disk> {
-        let files = Disk::empty(alloc, u64::MAX, u64::MAX).into_files();
-        let mut conn = connect(alloc, files)?;
-        let runs = runs(&mut conn, table) && runs(&mut conn, rest);
-        let files = conn.close_files().ok()?;
-        runs.then_some(Disk { files })
     }
 }
 
@@ -115,24 +82,21 @@ impl Model for DiskHistory {
     ghost view = { λ h. record { first = h.history.first; kept = h.history.kept } };
 }
 
-// Opens the history in two files, and notes what it found.
-fn open(alloc: Global, files: Files<Fused>, found: &mut Found) -> Option<Fragile> {
+// Opens the history in two files, and notes the records that it found.
+fn open(alloc: Global, files: Files<Fused>, found: &mut Vec<Record>) -> Option<Fragile> {
     let conn = connect(alloc, files)?;
     match History::open_or_create(alloc, conn, 10) {
         Ok((history, records)) => {
-            found.records = records;
+            *found = records;
             Some(history)
         }
-        Err((fault, _conn)) => {
-            found.fault = Some(fault);
-            None
-        }
+        Err((_fault, _conn)) => None,
     }
 }
 
 impl DiskHistory {
-    /// Opens the history on a disk, or makes one, and notes what it found.
-    pub fn open(alloc: Global, disk: Disk, found: &mut Found) -> Option<DiskHistory> {
+    /// Opens the history on a disk, or makes one, and notes the records that it found.
+    pub fn open(alloc: Global, disk: Disk, found: &mut Vec<Record>) -> Option<DiskHistory> {
         let history = open(alloc, disk.into_files(), found)?;
         Some(DiskHistory { history })
     }

@@ -9,4 +9,4 @@ mod calls;
 mod disk;
 
 pub use crate::calls::{are_records, follows, record_of};
-pub use crate::disk::{Disk, DiskHistory, Found};
+pub use crate::disk::{Disk, DiskHistory};

@@ -1,7 +1,7 @@
 // A disk that stops at each of its calls in turn: what a call that succeeded has stored is there afterwards, and nothing
 // else unless a call was in doubt.
 
-use history_disks::{Disk, DiskHistory, Found, are_records};
+use history_disks::{Disk, DiskHistory, are_records};
 use kept_records::{AppendFault, Cause, Kind, Record};
 use std::alloc::Global;
 
@@ -60,13 +60,13 @@ fn are_after(found: &[Record], outcome: Outcome) -> bool {
 // Runs a log that stops after so many calls, and returns how many calls of the history succeeded; `None` if the crash
 // lost what they stored, or if the history could not be opened.
 fn run(alloc: Global, log_calls: u64) -> Option<usize> {
-    let mut found = Found::new(alloc);
+    let mut found = Vec::new(alloc);
     let disk = Disk::empty(alloc, log_calls, u64::MAX);
     let mut history = DiskHistory::open(alloc, disk, &mut found)?;
     let outcome = call_all(&mut history, alloc);
     let _again = DiskHistory::open(alloc, history.crash(), &mut found)?;
     let outcome = outcome?;
-    are_after(&found.records, outcome).then_some(outcome.done)
+    are_after(&found, outcome).then_some(outcome.done)
 }
 
 // Whether a log that stops at any call loses nothing, once the history was opened, and stops between all calls of the

@@ -1,7 +1,7 @@
 // Histories in files of a disk in memory.
 
-use history_disks::{Disk, DiskHistory, Found, are_records};
-use kept_records::OpenFault;
+use history_disks::{Disk, DiskHistory, are_records};
+use kept_records::Record;
 use std::alloc::Global;
 
 // The calls on a new history; the number of the first record and the records that the next open finds.
@@ -15,23 +15,23 @@ p:ABCDE=ok s:FGHIJK=full s:FGHIJ=ok r:K=full c2:ABCDEFGHIJK=full c2:ABCDEFGHIJ=o
 // Makes the calls of a row on a new history, and closes it.
 fn live(alloc: Global, calls: &str) -> Option<Disk> {
     let disk = Disk::empty(alloc, u64::MAX, u64::MAX);
-    let mut history = DiskHistory::open(alloc, disk, &mut Found::new(alloc))?;
+    let mut history = DiskHistory::open(alloc, disk, &mut Vec::new(alloc))?;
     let follows = history.follows(alloc, calls) == Some(true);
     let disk = history.close()?;
     follows.then_some(disk)
 }
 
 // The number of the first record of the history on a disk.
-fn first_of(alloc: Global, disk: Disk, found: &mut Found) -> Option<u64> {
+fn first_of(alloc: Global, disk: Disk, found: &mut Vec<Record>) -> Option<u64> {
     let history = DiskHistory::open(alloc, disk, found)?;
     Some(history.first())
 }
 
 // Whether the next open of the disk finds these records, from this number on.
 fn is_found(alloc: Global, disk: Disk, first: &str, words: &str) -> Option<bool> {
-    let mut found = Found::new(alloc);
+    let mut found = Vec::new(alloc);
     let number = first_of(alloc, disk, &mut found);
-    Some(number == first.trim().parse().ok() && are_records(&found.records, words))
+    Some(number == first.trim().parse().ok() && are_records(&found, words))
 }
 
 fn is_so(alloc: Global, row: &str) -> Option<bool> {
@@ -49,40 +49,5 @@ fn is_so(alloc: Global, row: &str) -> Option<bool> {
 fn finds_what_was_kept_after_a_close(rt: HostRuntime) {
     for row in LIVES.lines() {
         assert!(rt; is_so(rt.alloc(), row) == Some(true), "{row}");
-    }
-}
-
-// Databases that are no history.
-const FOREIGN: &str = "\
-CREATE TABLE t (a INTEGER) STRICT
-CREATE TABLE record (number INTEGER PRIMARY KEY, kind INTEGER NOT NULL, bytes BLOB) STRICT
-CREATE TABLE record (number INTEGER PRIMARY KEY, kind INTEGER NOT NULL, bytes BLOB NOT NULL)
-CREATE TABLE record (number INTEGER PRIMARY KEY, bytes BLOB NOT NULL, kind INTEGER NOT NULL) STRICT
-R CREATE INDEX i ON record (kind)
-R CREATE TABLE t (a INTEGER) STRICT
-R INSERT INTO record VALUES (1, 1, x'41'), (3, 2, x'42')
-R INSERT INTO record VALUES (0, 1, x'41')
-R INSERT INTO record VALUES (1, 4, x'41')";
-
-const TABLE: &str =
-    "CREATE TABLE record (number INTEGER PRIMARY KEY, kind INTEGER NOT NULL, bytes BLOB NOT NULL) STRICT";
-
-// Whether the next open rejects what the statements of a row make.
-fn is_foreign(alloc: Global, row: &str) -> Option<bool> {
-    let disk = match row.strip_prefix("R ") {
-        Some(rest) => Disk::made(alloc, TABLE, rest)?,
-        None => Disk::made(alloc, row, "")?,
-    };
-    let mut found = Found::new(alloc);
-    let is_open = DiskHistory::open(alloc, disk, &mut found).is_some();
-    Some(!is_open && found.fault == Some(OpenFault::Foreign))
-}
-
-// rule: Schema of a history
-// rule: Records of a database
-#[test]
-fn rejects_a_database_of_another_program(rt: HostRuntime) {
-    for row in FOREIGN.lines() {
-        assert!(rt; is_foreign(rt.alloc(), row) == Some(true), "{row}");
     }
 }
