@@ -10,11 +10,7 @@ mod answers;
 #[cfg(test)]
 mod at_once;
 #[cfg(test)]
-mod budget_tests;
-#[cfg(test)]
 mod corpus_tests;
-#[cfg(test)]
-mod counting;
 #[cfg(test)]
 mod message_tests;
 #[cfg(test)]

@@ -1,5 +1,5 @@
 use crate::messages::{message_of, message_with};
-use crate::opened::serve_sent;
+use crate::opened::{Ended, serve_sent};
 use fixtures::{is_line, three_parts, two_parts};
 use http_memory::Connection;
 use std::alloc::{AllocError, Global};
@@ -26,23 +26,23 @@ fn whole(alloc: Global, body: &str) -> Result<String, AllocError> {
 // Whether a peer that sends this message gets this body.
 fn is_replied<R: Threads + Wait + AllocGlobal>(
     rt: &R,
-    budgets: &str,
+    grants: bool,
     message: Option<String>,
     wanted: &str,
 ) -> Option<bool> {
     let message = message?;
     let mut connection = Connection::new(rt.alloc(), message.as_str().as_bytes(), usize::MAX);
-    is_replied_over(rt, budgets, &mut connection, wanted)
+    is_replied_over(rt, grants, &mut connection, wanted)
 }
 
 // The same of a connection.
 fn is_replied_over<R: Threads + Wait + AllocGlobal>(
     rt: &R,
-    budgets: &str,
+    grants: bool,
     connection: &mut Connection<'_>,
     wanted: &str,
 ) -> Option<bool> {
-    let _ended = serve_sent(rt, budgets, false, connection)?;
+    let _ended = serve_sent(rt, grants, false, connection)?;
     has_reply(rt.alloc(), &connection.output.bytes, wanted)
 }
 
@@ -55,9 +55,9 @@ fn has_reply(alloc: Global, written: &[u8], wanted: &str) -> Option<bool> {
 // rule: Reply to a request
 #[test]
 fn replies_with_the_offer_that_a_mirror_granted(rt: HostRuntime) {
-    for (budgets, wanted) in [("1000000", REPLY), ("100 100", BUSY)] {
+    for (grants, wanted) in [(true, REPLY), (false, BUSY)] {
         let message = message_of(rt.alloc(), 1).ok();
-        assert!(rt; is_replied(&rt, budgets, message, wanted) == Some(true));
+        assert!(rt; is_replied(&rt, grants, message, wanted) == Some(true));
     }
 }
 
@@ -96,7 +96,7 @@ fn replies_to_requests_without_apps(rt: HostRuntime) {
     for row in WITHOUT_APPS.lines() {
         let message = message_without_apps(rt.alloc(), row);
         assert!(rt;
-            is_replied(&rt, "0", message, NO_APPS) == Some(true),
+            is_replied(&rt, false, message, NO_APPS) == Some(true),
             "{row}"
         );
     }
@@ -115,15 +115,9 @@ fn is_replied_once_over<R: Threads + Wait + AllocGlobal>(
     connection: &mut Connection<'_>,
 ) -> Option<bool> {
     let cuts = connection.input.left.len().saturating_sub(1);
-    let ended = serve_sent(rt, "1000000", true, connection)?;
+    let ended = serve_sent(rt, true, true, connection)?;
     let is_replied = has_reply(rt.alloc(), &connection.output.bytes, REPLY)?;
-    Some(is_replied && is_end(rt.alloc(), ended.as_str(), cuts)?)
-}
-
-// Whether so many cuts were unfinished, the whole message was finished, and the mirror granted its bytes alone.
-fn is_end(alloc: Global, ended: &str, cuts: usize) -> Option<bool> {
-    let wanted = format!(in alloc; "finished after {cuts} 300").ok()?;
-    Some(ended == wanted.as_str())
+    Some(is_replied && ended.how == "finished" && ended.unfinished == cuts && ended.asks == 1)
 }
 
 // rule: Desk of a worker
@@ -135,7 +129,7 @@ fn replies_to_a_message_once_it_is_whole(rt: HostRuntime) {
 }
 
 // A row is a message, `~` being the end of a line, how many bytes a call the peer takes, and what it gets: the
-// head, how many bytes follow, how the session ended, and the mirror's total.
+// head, how many bytes follow, how the session ended, and how often the mirror was asked.
 const MESSAGES: &str = "\
 GET /p/mebibyte.bin HTTP/1.1~~ | 65536 | HTTP/1.1 200 OK~Content-Type: application/octet-stream~Content-Length: 1048576~~ 983040 cut 0
 GET /p/block.bin HTTP/1.1~~ | 65536 | HTTP/1.1 200 OK~Content-Type: application/octet-stream~Content-Length: 65536~~ 0 cut 0
@@ -153,15 +147,17 @@ POST /service/update2/json HTTP/1.1~Content-Length: 1~~{ | 65536 | HTTP/1.1 400 
 POST /service/update2/json HTTP/1.1~Content-Length: 30~~{\"request\":{\"protocol\":\"3.0\"}} | 65536 | HTTP/1.1 400 Bad Request~Content-Length: 0~~ 0 finished 0
 ";
 
-// The head of what was written, with `~` for the ends of its lines, how many bytes follow, and how the session ended.
-fn print_session(alloc: Global, written: &[u8], ended: &str) -> Option<String> {
+// The head of what was written, with `~` for the ends of its lines, how many bytes follow, how the session ended, and
+// how often the mirror was asked.
+fn print_session(alloc: Global, written: &[u8], ended: Ended) -> Option<String> {
     let lines = str::from_utf8(written)
         .ok()?
         .replace(alloc, "\r\n", "~")
         .ok()?;
     let (head, body) = two_parts(lines.as_str(), "~~");
     let length = body.len();
-    format!(in alloc; "{head}~~ {length} {ended}").ok()
+    let Ended { how, asks, .. } = ended;
+    format!(in alloc; "{head}~~ {length} {how} {asks}").ok()
 }
 
 // What a peer that takes so many bytes a call gets for a message.
@@ -181,8 +177,8 @@ fn print_sent_over<R: Threads + Wait + AllocGlobal>(
     rt: &R,
     connection: &mut Connection<'_>,
 ) -> Option<String> {
-    let ended = serve_sent(rt, "1000", false, connection)?;
-    print_session(rt.alloc(), &connection.output.bytes, ended.as_str())
+    let ended = serve_sent(rt, true, false, connection)?;
+    print_session(rt.alloc(), &connection.output.bytes, ended)
 }
 
 // Whether the peer of a row gets what it says.

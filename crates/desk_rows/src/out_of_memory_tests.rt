@@ -3,7 +3,7 @@
 // In the gate no allocation fails. `make allocations` lets each one of a test fail in turn, so of two tries one fails at most.
 
 use crate::messages::message_of;
-use crate::opened::serve_sent;
+use crate::opened::{Ended, serve_sent};
 use http_memory::{Connection, Output};
 use std::alloc::Global;
 use std::str;
@@ -18,11 +18,11 @@ fn are_right(first: Option<bool>, second: Option<bool>) -> bool {
 const OFF: &[u8] =
     b"HTTP/1.1 500 Internal Server Error\r\nContent-Length: 0\r\nConnection: close\r\n\r\n";
 
-// Whether a session that ran out of memory sent no reply or that of a desk that is off, after none, one or two grants.
-fn is_off(sink: &Output, ended: &str) -> bool {
-    match ended {
-        "failed 0" => sink.bytes.is_empty(),
-        "refused 0" | "refused 300" | "refused 600" => sink.bytes.as_slice() == OFF,
+// Whether a session that ran out of memory sent no reply or that of a desk that is off, after none, one or two asks.
+fn is_off(sink: &Output, ended: Ended) -> bool {
+    match ended.how {
+        "failed" => sink.bytes.is_empty() && ended.asks == 0,
+        "refused" => sink.bytes.as_slice() == OFF && ended.asks <= 2,
         _ => false,
     }
 }
@@ -34,8 +34,8 @@ fn offers_in(reply: &[u8]) -> usize {
 }
 
 // Whether a session that ended so offered 300 bytes twice; `None` if it ran out of memory.
-fn has_offers(sink: &Output, ended: &str) -> Option<bool> {
-    if ended == "finished 600" {
+fn has_offers(sink: &Output, ended: Ended) -> Option<bool> {
+    if ended.how == "finished" && ended.asks == 2 {
         return Some(offers_in(&sink.bytes) == 3);
     }
     if is_off(sink, ended) {
@@ -51,8 +51,8 @@ fn offers_over<R: Threads + Wait + AllocGlobal>(
     connection: &mut Connection<'_>,
 ) -> Option<bool> {
     connection.output.bytes.reserve(8192).ok()?;
-    let ended = serve_sent(rt, "1000000", false, connection)?;
-    has_offers(&connection.output, ended.as_str())
+    let ended = serve_sent(rt, true, false, connection)?;
+    has_offers(&connection.output, ended)
 }
 
 // Whether the session of a message with two clients does.

@@ -9,7 +9,7 @@ use service_desks::Worker;
 use std::alloc::Global;
 use std::sync::Wait;
 use std::thread::Threads;
-use tallies::{Cell, Kind, Outcome, Tally, Track, Uncounted};
+use tallies::{Cell, Kind, Outcome, Tally, Track};
 
 // A press, with its one view.
 fn open_one<R: Threads + Wait>(rt: &R, alloc: Global) -> Option<(Press, View)> {
@@ -24,56 +24,41 @@ fn open_one<R: Threads + Wait>(rt: &R, alloc: Global) -> Option<(Press, View)> {
     }
 }
 
-// A worker whose till grants all, or nothing.
-fn worker_of<'a, R: Wait + AllocGlobal>(
-    rt: &'a R,
-    view: View,
-    grants: bool,
-) -> Option<Worker<'a, R, PlainTill, Uncounted>> {
-    let mirrors = mirrors_of(rt.alloc(), "1000000").ok()?;
-    Some(Worker::new(rt, view, PlainTill::new(mirrors, grants)))
+// A till that grants all, or nothing.
+fn till_of(alloc: Global, grants: bool) -> Option<PlainTill> {
+    Some(PlainTill::new(mirrors_of(alloc, "1000000").ok()?, grants))
 }
 
 // What a body gets, one second after 01:01 on 1 January 2026.
-fn send<R: Wait + AllocGlobal>(
-    worker: &mut Worker<'_, R, PlainTill, Uncounted>,
-    body: &str,
-) -> Option<String> {
-    let answer = worker.answer(body.as_bytes(), 1767229261);
-    print_answer(worker.rt.alloc(), &answer)
+fn send<D: Desk>(desk: &mut D, alloc: Global, body: &str) -> Option<String> {
+    let answer = desk.answer(body.as_bytes(), 1767229261);
+    print_answer(alloc, &answer)
 }
 
 // The update check of a client at 2.0.
 const CHECK: &str =
     r#"{"request":{"app":[{"appid":"demo","cohort":"stable:0","packages":{"package":[{"fp":"1.2222222222222222222222222222222222222222222222222222222222222222"}]},"updatecheck":{},"version":"2.0"}],"protocol":"3.1"}}"#;
 
-// What that client gets.
-fn ask<R: Wait + AllocGlobal>(worker: &mut Worker<'_, R, PlainTill, Uncounted>) -> Option<String> {
-    send(worker, CHECK)
-}
-
-fn has(reply: Option<String>, words: &str) -> bool {
-    match reply {
+// Whether that client gets a reply with these words.
+fn replies_with<D: Desk>(desk: &mut D, alloc: Global, words: &str) -> bool {
+    match send(desk, alloc, CHECK) {
         Some(reply) => reply.as_str().contains(words),
         None => false,
     }
 }
 
-// Whether a worker says that no mirror has room.
-fn says_busy<R: Wait + AllocGlobal>(
-    worker: &mut Worker<'_, R, PlainTill, Uncounted>,
-) -> Option<bool> {
-    let body = request_of(worker.rt.alloc(), 1).ok()?;
-    let reply = send(worker, body.as_str())?;
+// Whether a client gets that no mirror has room.
+fn says_busy<D: Desk>(desk: &mut D, alloc: Global) -> Option<bool> {
+    let body = request_of(alloc, 1).ok()?;
+    let reply = send(desk, alloc, body.as_str())?;
     Some(reply.as_str().strip_prefix("200 ") == Some(BUSY))
 }
 
 // Whether a worker without room asks once, for 300 bytes, and says so.
 fn is_busy<R: Wait + AllocGlobal>(rt: &R, view: View) -> Option<bool> {
-    let mut worker = worker_of(rt, view, false)?;
-    let is_said = says_busy(&mut worker);
-    let (_view, till) = worker.into_parts();
-    Some(is_said? && till.count == 1 && till.last == 300)
+    let mut worker = Worker::new(rt, view, till_of(rt.alloc(), false)?);
+    let is_said = says_busy(&mut worker, rt.alloc())?;
+    Some(is_said && worker.till.count == 1 && worker.till.last == 300)
 }
 
 // rule: Desk of a worker
@@ -89,10 +74,11 @@ fn asks_once_and_says_that_no_mirror_has_room(rt: HostRuntime) {
 
 // Whether a worker offers 3.0 before that is withdrawn and 4.0 afterwards, and has then seen 2 batches.
 fn follows<R: Threads + Wait + AllocGlobal>(rt: &R, press: &mut Press, view: View) -> Option<bool> {
-    let mut worker = worker_of(rt, view, true)?;
-    let is_before = has(ask(&mut worker), "\"sizediff\":200");
-    let is_published = publish_edits(rt, rt.alloc(), press, 1, "set_withdrawn demo 3.0 on").is_ok();
-    let is_after = has(ask(&mut worker), "\"sizediff\":500");
+    let alloc = rt.alloc();
+    let mut worker = Worker::new(rt, view, till_of(alloc, true)?);
+    let is_before = replies_with(&mut worker, alloc, "\"sizediff\":200");
+    let is_published = publish_edits(rt, alloc, press, 1, "set_withdrawn demo 3.0 on").is_ok();
+    let is_after = replies_with(&mut worker, alloc, "\"sizediff\":500");
     let (view, till) = worker.into_parts();
     Some(is_before && is_published && is_after && view.seen() == 2 && till.last == 500)
 }
@@ -109,36 +95,33 @@ fn replies_by_the_edition_that_it_enters(rt: HostRuntime) {
     assert!(rt; follows == Some(true));
 }
 
-// Whether a worker knows the package of 2.0.
-fn knows<R: Wait + AllocGlobal>(worker: &mut Worker<'_, R, PlainTill, Uncounted>) -> bool {
-    match worker.package(b"demo-2.0.bin") {
+// Whether a desk knows the package of 2.0.
+fn knows<D: Desk>(desk: &mut D) -> bool {
+    match desk.package(b"demo-2.0.bin") {
         Some(declared) => declared.size == 1200,
         None => false,
     }
 }
 
-// Whether a worker is closed once its press has ended, but still rejects what is no request.
-fn closes<R: Threads + Wait + AllocGlobal>(
-    rt: &R,
-    press: Press,
-    worker: &mut Worker<'_, R, PlainTill, Uncounted>,
-) -> bool {
-    let is_known = knows(worker);
-    press.end(rt);
-    let is_closed = is_line(ask(worker), "closed");
-    let is_bad = is_line(send(worker, "{"), "400 ");
-    is_known && is_closed && is_bad && worker.package(b"demo-2.0.bin").is_none()
+// Whether a desk is closed, knows no package, and still rejects what is no request.
+fn is_shut<D: Desk>(desk: &mut D, alloc: Global) -> bool {
+    let is_closed = is_line(send(desk, alloc, CHECK), "closed");
+    let is_bad = is_line(send(desk, alloc, "{"), "400 ");
+    is_closed && is_bad && desk.package(b"demo-2.0.bin").is_none()
 }
 
-// Whether a worker of that press is closed so, and asked for nothing.
+// Whether a worker is shut once its press has ended, and asked for nothing.
 fn is_closed<R: Threads + Wait + AllocGlobal>(rt: &R, press: Press, view: View) -> bool {
-    let Some(mut worker) = worker_of(rt, view, true) else {
+    let Some(till) = till_of(rt.alloc(), true) else {
         press.end(rt);
         return false;
     };
-    let is_closed = closes(rt, press, &mut worker);
+    let mut worker = Worker::new(rt, view, till);
+    let is_known = knows(&mut worker);
+    press.end(rt);
+    let is_shut = is_shut(&mut worker, rt.alloc());
     let (view, till) = worker.into_parts();
-    is_closed && view.seen() == 1 && till.count == 0
+    is_known && is_shut && view.seen() == 1 && till.count == 0
 }
 
 // rule: Desk of a worker
@@ -154,17 +137,21 @@ fn is_closed_once_the_press_has_ended(rt: HostRuntime) {
 const OTHERS: &str =
     r#"{"request":{"app":[{"appid":"none","updatecheck":{}},{"appid":"demo"},{"appid":"demo","cohort":"stable:0","updatecheck":{"updatedisabled":true}}],"protocol":"3.1"}}"#;
 
+// Whether both bodies get a reply.
+fn replies_to_both<D: Desk>(desk: &mut D) -> bool {
+    desk.answer(CHECK.as_bytes(), 1).is_ok() && desk.answer(OTHERS.as_bytes(), 1).is_ok()
+}
+
 // Replies to both bodies, and counts in a tally.
-fn reply_to_both<R: Wait + AllocGlobal>(
+fn count_in<R: Wait + AllocGlobal>(
     rt: &R,
     view: View,
     grants: bool,
     tally: &Tally,
 ) -> Option<bool> {
-    let till = PlainTill::new(mirrors_of(rt.alloc(), "1000000").ok()?, grants);
+    let till = till_of(rt.alloc(), grants)?;
     let mut worker = Worker::with_counter(rt, view, till, 0, tally);
-    let is_replied = worker.answer(CHECK.as_bytes(), 1).is_ok();
-    Some(is_replied && worker.answer(OTHERS.as_bytes(), 1).is_ok())
+    Some(replies_to_both(&mut worker))
 }
 
 fn checks(tally: &Tally, outcome: Outcome) -> u64 {
@@ -186,9 +173,9 @@ fn counted(tally: &Tally) -> [u64; 5] {
 fn count_both<R: Threads + Wait + AllocGlobal>(rt: &R, grants: bool) -> Option<[u64; 5]> {
     let tally = Tally::new(rt.alloc(), 1, &[2]).ok()?;
     let (press, view) = open_one(rt, rt.alloc())?;
-    let is_replied = reply_to_both(rt, view, grants, &tally);
+    let are_replied = count_in(rt, view, grants, &tally);
     press.end(rt);
-    match is_replied {
+    match are_replied {
         Some(true) => Some(counted(&tally)),
         _ => None,
     }

@@ -1,7 +1,7 @@
 //! Histories on a disk in memory that stops at some call, and the calls of a row.
 //!
-//! A `DiskHistory` is a history on a `Disk`, which a crash or a close gives back. `follows` makes the calls of a row on any
-//! records. Tests name these types alone, so they prove nothing again of the database.
+//! A `Disk` opens its history, does with the records what a `Life` does, and gives back itself. `follows` makes the calls
+//! of a row on any records. Whoever calls them proves nothing again of the database, since no type of it is named.
 
 #![tactic(auto)]
 
@@ -9,4 +9,4 @@ mod calls;
 mod disk;
 
 pub use crate::calls::{are_records, follows, record_of};
-pub use crate::disk::{Disk, DiskHistory};
+pub use crate::disk::{Disk, Life};

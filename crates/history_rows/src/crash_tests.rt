@@ -1,8 +1,8 @@
 // A disk that stops at each of its calls in turn: what a call that succeeded has stored is there afterwards, and nothing
 // else unless a call was in doubt.
 
-use history_disks::{Disk, DiskHistory, are_records};
-use kept_records::{AppendFault, Cause, Kind, Record};
+use history_disks::{Disk, Life, are_records};
+use kept_records::{AppendFault, Cause, Kind, Record, Records};
 use std::alloc::Global;
 
 // The records after so many calls.
@@ -16,25 +16,25 @@ struct Outcome {
 }
 
 // Three appends, and then a compaction.
-fn call(history: &mut DiskHistory, alloc: Global, number: usize) -> Result<(), AppendFault> {
+fn call<R: Records>(records: &mut R, alloc: Global, number: usize) -> Result<(), AppendFault> {
     match number {
-        0 => history.append(alloc, Kind::Profile, b"A"),
-        1 => history.append(alloc, Kind::Script, b"B"),
-        2 => history.append(alloc, Kind::Raise, b"C"),
-        _ => history.compact(alloc, b"Z"),
+        0 => records.append(alloc, Kind::Profile, b"A"),
+        1 => records.append(alloc, Kind::Script, b"B"),
+        2 => records.append(alloc, Kind::Raise, b"C"),
+        _ => records.compact(alloc, 7, b"Z"),
     }
 }
 
 // Makes the calls until one fails; `None` if its cause isn't the disk, or if a closed history takes one more.
-fn call_all(history: &mut DiskHistory, alloc: Global) -> Option<Outcome> {
+fn call_all<R: Records>(records: &mut R, alloc: Global) -> Option<Outcome> {
     for done in 0..4 {
-        let in_doubt = match call(history, alloc, done) {
+        let in_doubt = match call(records, alloc, done) {
             Ok(()) => continue,
             Err(AppendFault::Failed(Cause::Disk)) => false,
             Err(AppendFault::Unknown(Cause::Disk)) => true,
             Err(_) => return None,
         };
-        let next = call(history, alloc, done);
+        let next = call(records, alloc, done);
         if in_doubt && next != Err(AppendFault::Failed(Cause::Closed)) {
             return None;
         }
@@ -44,6 +44,17 @@ fn call_all(history: &mut DiskHistory, alloc: Global) -> Option<Outcome> {
         done: 4,
         in_doubt: false,
     })
+}
+
+// Makes the calls, and notes what they came to.
+struct Calls {
+    outcome: Option<Outcome>,
+}
+
+impl Life for Calls {
+    fn live<R: Records>(&mut self, alloc: Global, records: &mut R, _found: &[Record]) {
+        self.outcome = call_all(records, alloc);
+    }
 }
 
 // Whether these are the records after the calls that succeeded, or after one more that was in doubt.
@@ -57,16 +68,30 @@ fn are_after(found: &[Record], outcome: Outcome) -> bool {
     false
 }
 
+// Looks whether the records that are found are those after an outcome.
+struct Look {
+    outcome: Outcome,
+    is_after: bool,
+}
+
+impl Life for Look {
+    fn live<R: Records>(&mut self, _alloc: Global, _records: &mut R, found: &[Record]) {
+        self.is_after = are_after(found, self.outcome);
+    }
+}
+
 // Runs a log that stops after so many calls, and returns how many calls of the history succeeded; `None` if the crash
 // lost what they stored, or if the history could not be opened.
 fn run(alloc: Global, log_calls: u64) -> Option<usize> {
-    let mut found = Vec::new(alloc);
-    let disk = Disk::empty(alloc, log_calls, u64::MAX);
-    let mut history = DiskHistory::open(alloc, disk, &mut found)?;
-    let outcome = call_all(&mut history, alloc);
-    let _again = DiskHistory::open(alloc, history.crash(), &mut found)?;
-    let outcome = outcome?;
-    are_after(&found, outcome).then_some(outcome.done)
+    let mut calls = Calls { outcome: None };
+    let disk = Disk::empty(alloc, log_calls, u64::MAX).crash_after(alloc, &mut calls)?;
+    let outcome = calls.outcome?;
+    let mut look = Look {
+        outcome,
+        is_after: false,
+    };
+    let _disk = disk.crash_after(alloc, &mut look)?;
+    look.is_after.then_some(outcome.done)
 }
 
 // Whether a log that stops at any call loses nothing, once the history was opened, and stops between all calls of the

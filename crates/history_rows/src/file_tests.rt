@@ -1,7 +1,7 @@
 // Histories in files of a disk in memory.
 
-use history_disks::{Disk, DiskHistory, are_records};
-use kept_records::Record;
+use history_disks::{Disk, Life, are_records, follows};
+use kept_records::{Record, Records};
 use std::alloc::Global;
 
 // The calls on a new history; the number of the first record and the records that the next open finds.
@@ -12,32 +12,54 @@ p:A=ok s:=ok c7:Z=ok s:B=ok n=none | 7 | p:Z s:B
 c3:Y=ok c5:Z=ok | 5 | p:Z
 p:ABCDE=ok s:FGHIJK=full s:FGHIJ=ok r:K=full c2:ABCDEFGHIJK=full c2:ABCDEFGHIJ=ok | 2 | p:ABCDEFGHIJ";
 
-// Makes the calls of a row on a new history, and closes it.
-fn live(alloc: Global, calls: &str) -> Option<Disk> {
-    let disk = Disk::empty(alloc, u64::MAX, u64::MAX);
-    let mut history = DiskHistory::open(alloc, disk, &mut Vec::new(alloc))?;
-    let follows = history.follows(alloc, calls) == Some(true);
-    let disk = history.close()?;
-    follows.then_some(disk)
+// Makes the calls of a row on a new history.
+struct Calls<'a> {
+    row: &'a str,
+    is_empty: bool,
+    are_so: bool,
 }
 
-// The number of the first record of the history on a disk.
-fn first_of(alloc: Global, disk: Disk, found: &mut Vec<Record>) -> Option<u64> {
-    let history = DiskHistory::open(alloc, disk, found)?;
-    Some(history.first())
+impl Life for Calls<'_> {
+    fn live<R: Records>(&mut self, alloc: Global, records: &mut R, found: &[Record]) {
+        self.is_empty = found.is_empty();
+        self.are_so = follows(records, alloc, self.row) == Some(true);
+    }
 }
 
-// Whether the next open of the disk finds these records, from this number on.
-fn is_found(alloc: Global, disk: Disk, first: &str, words: &str) -> Option<bool> {
-    let mut found = Vec::new(alloc);
-    let number = first_of(alloc, disk, &mut found);
-    Some(number == first.trim().parse().ok() && are_records(&found, words))
+// Looks for the records of a row, from its number on.
+struct Look<'a> {
+    first: Option<u64>,
+    words: &'a str,
+    are_there: bool,
+}
+
+impl Life for Look<'_> {
+    fn live<R: Records>(&mut self, _alloc: Global, records: &mut R, found: &[Record]) {
+        self.are_there = self.first == Some(records.first()) && are_records(found, self.words);
+    }
+}
+
+// The disk after the calls of a row and a close.
+fn lived(alloc: Global, row: &str) -> Option<Disk> {
+    let mut calls = Calls {
+        row,
+        is_empty: false,
+        are_so: false,
+    };
+    let disk = Disk::empty(alloc, u64::MAX, u64::MAX).close_after(alloc, &mut calls)?;
+    (calls.is_empty && calls.are_so).then_some(disk)
 }
 
 fn is_so(alloc: Global, row: &str) -> Option<bool> {
     let (calls, after) = row.split_once('|')?;
     let (first, words) = after.split_once('|')?;
-    is_found(alloc, live(alloc, calls)?, first, words)
+    let mut look = Look {
+        first: first.trim().parse().ok(),
+        words,
+        are_there: false,
+    };
+    let _disk = lived(alloc, calls)?.close_after(alloc, &mut look)?;
+    Some(look.are_there)
 }
 
 // rule: Limit of all records
