@@ -2,11 +2,12 @@
 
 ghost use Rattle.std.specs.Prelude.{IfSome};
 ghost use Rattle.sqlite.specs.Files.{file_state};
+ghost use Rattle.sqlite.specs.Held.{state};
 ghost use Rattle.sqlite.specs.State.{HasCleanDisk, Opens};
 
 use history::History;
 use kept_records::{Record, Records};
-use sqlite::{Connection, FileStore, Files, Options};
+use sqlite::{Alter, Connection, FileStore, Files, Options};
 use sqlite_disk::{Crash, Fuse, Memory};
 use std::alloc::Global;
 
@@ -53,13 +54,14 @@ fn connect<D: Crash + Drop>(alloc: Global, files: Files<D>) -> Option<Connection
     }
 }
 
-// Opens the history in two files, or makes one, whose records may have 10 bytes together, and lives with it.
-fn live_in<D: Crash + Drop, L: Life>(
+// Opens the history of a database, or makes one, whose records may have 10 bytes together, and lives with it.
+fn live_over<S: Alter + Drop, L: Life>(
     alloc: Global,
-    files: Files<D>,
+    conn: Connection<S>,
     life: &mut L,
-) -> Option<History<FileStore<D>>> {
-    let conn = connect(alloc, files)?;
+) -> Option<History<S>>
+    requires { HasCleanDisk (state S.Store conn) → Opens (state S.Store conn) }
+{
     match History::open_or_create(alloc, conn, 10) {
         Ok((history, found)) => {
             let mut history = history;
@@ -70,20 +72,35 @@ fn live_in<D: Crash + Drop, L: Life>(
     }
 }
 
-// The same, and then a crash.
+// The same of the database in two files.
+fn live_in<D: Crash + Drop, L: Life>(
+    alloc: Global,
+    files: Files<D>,
+    life: &mut L,
+) -> Option<History<FileStore<D>>> {
+    let conn = connect(alloc, files)?;
+    live_over(alloc, conn, life)
+}
+
+// The store of a history that is there no more.
+fn store_of<S: Alter + Drop>(history: History<S>) -> S {
+    history.into_connection().into_store()
+}
+
+// Lives with the history in two files; then a crash.
 fn crash_in<D: Crash + Drop, L: Life>(
     alloc: Global,
     files: Files<D>,
     life: &mut L,
 ) -> Option<Files<D>> {
-    let history = live_in(alloc, files, life)?;
-    let mut files = history.into_connection().into_store().close();
+    let store = store_of(live_in(alloc, files, life)?);
+    let mut files = store.close();
     files.log.crash();
     files.db.crash();
     Some(files)
 }
 
-// The same, and then a close.
+// Lives with it; then a close.
 fn close_in<D: Crash + Drop, L: Life>(
     alloc: Global,
     files: Files<D>,

@@ -1,5 +1,5 @@
 //! Worked rows of what workers and an operator share: budgets that workers ask for, also while they are raised, a press
-//! that two publish by, and the operator's desk with its scripts, raises and dumps.
+//! that two publish by, and the operator's desk.
 //!
 //! It has tests alone, so that `mirror_ledger`, `publisher` and `service_desks` are proved once.
 
@@ -17,8 +17,6 @@ mod full_tests;
 mod kept_tests;
 #[cfg(test)]
 mod one_worker;
-#[cfg(test)]
-mod operator_tests;
 #[cfg(test)]
 mod out_of_memory_tests;
 #[cfg(test)]

@@ -1,4 +1,4 @@
 use Rattle.history_disks.proofs.disk.live_in.Goals as goal
 
-pub open_or_create-requires : goal.open_or_create-requires
-open_or_create-requires g c = record { opens = c.in_ok-conn.ensures }
+pub live_over-requires : goal.live_over-requires
+live_over-requires g c = c.in_ok-conn.ensures
