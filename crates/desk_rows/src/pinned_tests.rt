@@ -1,5 +1,6 @@
 // Pinned clients of one worker, which keeps tables of their tracks.
 
+use crate::answers::replies_with;
 use fixtures::{CHAINED, PlainTill, mirrors_of, open_profile, publish_edits};
 use http_desks::Desk;
 use publisher::{Press, View};
@@ -7,7 +8,6 @@ use service_desks::Worker;
 use std::alloc::{AllocError, Global};
 use std::sync::Wait;
 use std::thread::Threads;
-use tallies::Uncounted;
 
 // The update check of a client at 2.0 with a prefix.
 fn check_with(alloc: Global, prefix: &str) -> Result<String, AllocError> {
@@ -16,47 +16,38 @@ fn check_with(alloc: Global, prefix: &str) -> Result<String, AllocError> {
     )
 }
 
-// The bytes that a worker asks for of that client; 0 if it asks for none.
-fn asked_for<R: Wait + AllocGlobal>(
-    worker: &mut Worker<'_, R, PlainTill, Uncounted>,
-    prefix: &str,
-) -> Option<u64> {
-    let body = check_with(worker.rt.alloc(), prefix).ok()?;
-    let before = worker.till.count;
-    let is_replied = worker.answer(body.as_str().as_bytes(), 1767229261).is_ok();
-    match (is_replied, worker.till.count > before) {
-        (true, true) => Some(worker.till.last),
-        (true, false) => Some(0),
-        _ => None,
-    }
-}
-
-// Whether it asks for so many bytes of clients with the prefixes 3 and 4, twice in turn.
-fn asks<R: Wait + AllocGlobal>(
-    worker: &mut Worker<'_, R, PlainTill, Uncounted>,
-    three: u64,
-    four: u64,
-) -> bool {
+// Whether clients with the prefixes 3 and 4 get replies with these words, twice in turn.
+fn reply_with<D: Desk>(desk: &mut D, alloc: Global, three: &str, four: &str) -> Option<bool> {
+    let of_three = check_with(alloc, "3").ok()?;
+    let of_four = check_with(alloc, "4").ok()?;
+    let mut are_so = true;
     for _turn in 0..2 {
-        if asked_for(worker, "3") != Some(three) || asked_for(worker, "4") != Some(four) {
-            return false;
-        }
+        are_so = are_so
+            && replies_with(desk, alloc, of_three.as_str(), three)
+            && replies_with(desk, alloc, of_four.as_str(), four);
     }
-    true
+    Some(are_so)
 }
 
-// Whether it does so before and after 3.0 is made a stone, which 4.0 can't be got past.
+const OFFERS_3: &str = "\"sizediff\":200";
+
+const OFFERS_4: &str = "\"sizediff\":500";
+
+const NOUPDATE: &str = "\"updatecheck\":{\"status\":\"noupdate\"}";
+
+// Whether a worker offers both before 3.0 is made a stone, which 4.0 can't be got past, and then 3.0 alone.
 fn follows<R: Threads + Wait + AllocGlobal>(
     rt: &R,
     press: &mut Press,
     view: View,
     tables: usize,
 ) -> Option<bool> {
-    let till = PlainTill::new(mirrors_of(rt.alloc(), "1000000").ok()?, true);
+    let alloc = rt.alloc();
+    let till = PlainTill::new(mirrors_of(alloc, "1000000").ok()?, true);
     let mut worker = Worker::with_tables(rt, view, till, tables);
-    let is_before = asks(&mut worker, 200, 500);
-    let is_published = publish_edits(rt, rt.alloc(), press, 1, "set_stone demo 3.0 on").is_ok();
-    let is_after = asks(&mut worker, 200, 0);
+    let is_before = reply_with(&mut worker, alloc, OFFERS_3, OFFERS_4)?;
+    let is_published = publish_edits(rt, alloc, press, 1, "set_stone demo 3.0 on").is_ok();
+    let is_after = reply_with(&mut worker, alloc, OFFERS_3, NOUPDATE)?;
     Some(is_before && is_published && is_after)
 }
 

@@ -1,6 +1,6 @@
 // The desk of a worker, over a till in memory.
 
-use crate::answers::print_answer;
+use crate::answers::{replies_with, send};
 use crate::message_tests::BUSY;
 use fixtures::{CHAINED, PlainTill, is_line, mirrors_of, open_profile, publish_edits, request_of};
 use http_desks::Desk;
@@ -29,23 +29,9 @@ fn till_of(alloc: Global, grants: bool) -> Option<PlainTill> {
     Some(PlainTill::new(mirrors_of(alloc, "1000000").ok()?, grants))
 }
 
-// What a body gets, one second after 01:01 on 1 January 2026.
-fn send<D: Desk>(desk: &mut D, alloc: Global, body: &str) -> Option<String> {
-    let answer = desk.answer(body.as_bytes(), 1767229261);
-    print_answer(alloc, &answer)
-}
-
 // The update check of a client at 2.0.
 const CHECK: &str =
     r#"{"request":{"app":[{"appid":"demo","cohort":"stable:0","packages":{"package":[{"fp":"1.2222222222222222222222222222222222222222222222222222222222222222"}]},"updatecheck":{},"version":"2.0"}],"protocol":"3.1"}}"#;
-
-// Whether that client gets a reply with these words.
-fn replies_with<D: Desk>(desk: &mut D, alloc: Global, words: &str) -> bool {
-    match send(desk, alloc, CHECK) {
-        Some(reply) => reply.as_str().contains(words),
-        None => false,
-    }
-}
 
 // Whether a client gets that no mirror has room.
 fn says_busy<D: Desk>(desk: &mut D, alloc: Global) -> Option<bool> {
@@ -76,9 +62,9 @@ fn asks_once_and_says_that_no_mirror_has_room(rt: HostRuntime) {
 fn follows<R: Threads + Wait + AllocGlobal>(rt: &R, press: &mut Press, view: View) -> Option<bool> {
     let alloc = rt.alloc();
     let mut worker = Worker::new(rt, view, till_of(alloc, true)?);
-    let is_before = replies_with(&mut worker, alloc, "\"sizediff\":200");
+    let is_before = replies_with(&mut worker, alloc, CHECK, "\"sizediff\":200");
     let is_published = publish_edits(rt, alloc, press, 1, "set_withdrawn demo 3.0 on").is_ok();
-    let is_after = replies_with(&mut worker, alloc, "\"sizediff\":500");
+    let is_after = replies_with(&mut worker, alloc, CHECK, "\"sizediff\":500");
     let (view, till) = worker.into_parts();
     Some(is_before && is_published && is_after && view.seen() == 2 && till.last == 500)
 }
