@@ -4,7 +4,7 @@ ghost use Rattle.std.specs.Prelude.{codes};
 ghost use Rattle.http_desks.specs.Calls.{Call};
 
 use http_desks::{Answer, Declared, Desk, DeskStatus, Off, Page};
-use http_memory::{Content, File, FixedClock, Shelf};
+use http_memory::{Content, File, Shelf};
 use std::alloc::{AllocError, Global};
 
 // The SHA-256 of `abc`, as FIPS 180 has it.
@@ -42,11 +42,6 @@ const PACKAGES: [(&[u8], u64, [u8; 32]); 8] = [
     (b"short.bin", 131_073, LONG),
     (b"grown.bin", 131_073, LONG),
 ];
-
-/// The time.
-pub(crate) const CLOCK: FixedClock = FixedClock {
-    seconds: 1_795_512_605,
-};
 
 /// The files: `cut.bin` and `other.bin` have other bytes than declared, of `short.bin` the end can't be read, and
 /// `grown.bin` has a byte more.

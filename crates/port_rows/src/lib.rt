@@ -1,6 +1,5 @@
-//! Rows of connections: `http_ports::run` serves the peers of a script of `http_memory` by the sessions of
-//! `http_sessions`. Others are over the loopback: clients of a port, posts and downloads by a client, and a client
-//! whose devices fail.
+//! Rows of connections in memory: `http_ports::run` serves the peers of a script of `http_memory` by the sessions of
+//! `http_sessions`, and a client posts and downloads over devices that give and take pieces, and of which a call may fail.
 //!
 //! Each row says what peers send and how they behave, and then how each connection ends and what its peer gets.
 //!
@@ -9,38 +8,20 @@
 #![tactic(auto)]
 
 #[cfg(test)]
-mod chunked_tests;
-#[cfg(test)]
-mod client;
-#[cfg(test)]
-mod connection_tests;
-#[cfg(test)]
-mod counter;
+mod address_tests;
 #[cfg(test)]
 mod desk;
 #[cfg(test)]
-mod download_tests;
-#[cfg(test)]
-mod exchange_tests;
-#[cfg(test)]
-mod failing_client_tests;
-#[cfg(test)]
-mod gateway_tests;
+mod failing_link_tests;
 #[cfg(test)]
 mod lines;
 #[cfg(test)]
-mod log_tests;
+mod link_tests;
 #[cfg(test)]
-mod logs;
+mod links;
 #[cfg(test)]
 mod peers;
 #[cfg(test)]
-mod port_server;
-#[cfg(test)]
 mod rows;
-#[cfg(test)]
-mod server;
-#[cfg(test)]
-mod socket_tests;
 #[cfg(test)]
 mod tests;
