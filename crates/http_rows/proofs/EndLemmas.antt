@@ -2,7 +2,7 @@
 use Rattle.std.proofs.Common.{◌≡◌, ◌∙◌, List, [], ◌∷◌, sym, subst}
 use Rattle.std.specs.List.{AllZip}
 use Rattle.rtrb.specs.Ring.{SameProducer}
-use Rattle.access_logs.specs.Queues.{AreEnds, AreEndsOf, Ended, HaveEnded, ReceivingEnd, Sending, SendingEnd}
+use Rattle.access_logs.specs.Queues.{AreEnds, AreEndsOf, Ended, ReceivingEnd, Sending, SendingEnd}
 
 -- an end that is twice of one ring is of it
 SameProducer-after :
@@ -30,11 +30,3 @@ first-ends senders ends first later second last two all one other =
     both-ends ends first second last
     (subst (λ those. AllZip (λ (one : Sending) (other : ReceivingEnd). AreEnds one.end other) those ends) two all)
     (SameProducer-after first.end later.end last.end one other)
-
--- both of two senders have ended
-pub both-ended :
-    (senders : List Sending) (ended : List Ended) (first second : Sending) (one other : Ended) →
-    senders ≡ first ∷ second ∷ [] → ended ≡ one ∷ other ∷ [] → SameProducer first.end one.end →
-    SameProducer second.end other.end → HaveEnded senders ended
-both-ended senders ended first second one other two are same others =
-    subst (λ those. HaveEnded senders those) (sym are) (first ∷ second ∷ [], [], two, (same, (others, tt)))

@@ -3,31 +3,57 @@
 use crate::desks::{FILES, letters};
 use crate::session_tests::serve_over;
 use http_memory::{Connection, Input, Output, Shelf};
-use std::process::Abort;
 
-// A post that is echoed, a download, and a message to no path.
+// A post that is echoed, whose body looks like a head, a download, and a message to no path.
 const SENT: &[u8] =
-    b"POST /service/update2/json HTTP/1.1\r\nContent-Length: 1\r\n\r\nxGET /p/mini-1.0.bin HTTP/1.1\r\n\r\nGET / HTTP/1.1\r\n\r\n";
+    b"POST /service/update2/json HTTP/1.1\r\nContent-Length: 18\r\n\r\nGET /x HTTP/1.1\r\n\rGET /p/mini-1.0.bin HTTP/1.1\r\n\r\nGET / HTTP/1.1\r\n\r\n";
 
 const WRITTEN: &[u8] =
-    b"HTTP/1.1 200 OK\r\nContent-Type: application/json\r\nContent-Length: 1\r\n\r\nxHTTP/1.1 200 OK\r\nContent-Type: application/octet-stream\r\nContent-Length: 3\r\n\r\nabcHTTP/1.1 404 Not Found\r\nContent-Length: 0\r\n\r\n";
+    b"HTTP/1.1 200 OK\r\nContent-Type: application/json\r\nContent-Length: 18\r\n\r\nGET /x HTTP/1.1\r\n\rHTTP/1.1 200 OK\r\nContent-Type: application/octet-stream\r\nContent-Length: 3\r\n\r\nabcHTTP/1.1 404 Not Found\r\nContent-Length: 0\r\n\r\n";
 
 // Where each message ends, and its reply.
-const ENDS: [(usize, usize); 3] = [(59, 71), (91, 152), (109, 197)];
+const ENDS: [(usize, usize); 3] = [(77, 89), (109, 170), (127, 215)];
 
-// The replies to the messages that are whole in so many bytes.
-fn replies_to(read: usize) -> Option<&'static [u8]> {
-    let mut end = 0;
+// The replies to the messages that are whole in so many bytes, how many these are, and how a connection of these bytes ends.
+fn replies_to(read: usize) -> (&'static [u8], u32, &'static str) {
+    let mut how = if read == 0 { "finished" } else { "unfinished" };
+    let (mut end, mut count) = (0, 0u32);
     for (message, reply) in ENDS {
         if message <= read {
             end = reply;
+            count = count.saturating_add(1);
+            how = if message == read {
+                "finished"
+            } else {
+                "unfinished"
+            };
         }
     }
-    WRITTEN.get(..end)
+    (WRITTEN.get(..end).unwrap_or(b""), count, how)
 }
 
-// Lets each read of a session fail until none does, and returns how many there are. A read gives so many bytes.
-fn count_reads<R: AllocGlobal + Abort>(rt: &R, piece: usize) -> usize {
+// Whether a connection that sends these bytes gets the replies to the messages that are whole in them.
+fn is_served_before(rt: &HostRuntime, sent: &[u8], piece: usize) -> bool {
+    let (replies, count, how) = replies_to(sent.len());
+    let mut connection = Connection::new(rt.alloc(), sent, piece);
+    let ended = serve_over(rt, &FILES, &mut connection);
+    ended == (count, how) && connection.output.bytes.as_slice() == replies
+}
+
+// rule: End of a session
+#[test]
+fn replies_to_whole_messages_before_each_cut(rt: HostRuntime) {
+    for end in 0..=SENT.len() {
+        for piece in [1, 7, 1000] {
+            let is_served = is_served_before(&rt, &SENT[..end], piece);
+            assert!(rt; is_served, "{end} bytes, {piece} a call");
+        }
+    }
+}
+
+// Lets each read of a session fail until none does, and returns how many there are; `None` if a connection gets anything
+// but the replies to what was read before. A read gives so many bytes.
+fn count_reads(rt: &HostRuntime, piece: usize) -> Option<usize> {
     for good in 0..1000 {
         let mut input = Input::new(SENT, piece);
         input.fails_after = Some(good);
@@ -35,29 +61,34 @@ fn count_reads<R: AllocGlobal + Abort>(rt: &R, piece: usize) -> usize {
         let mut connection = Connection { input, output };
         let ended = serve_over(rt, &FILES, &mut connection);
         let read = SENT.len().saturating_sub(connection.input.left.len());
-        assert!(rt;
-            replies_to(read) == Some(connection.output.bytes.as_slice()),
-            "after {good} reads"
-        );
-        if ended == (3, "finished") {
-            return good;
+        if connection.output.bytes.as_slice() != replies_to(read).0 {
+            return None;
         }
-        assert!(rt; ended == (0, "read failed"), "after {good} reads");
+        if ended == (3, "finished") {
+            return Some(good);
+        }
+        if ended != (0, "read failed") {
+            return None;
+        }
     }
-    1000
+    None
 }
 
 // rule: Session
 // The last read finds the end of the input.
 #[test]
 fn replies_to_whole_messages_before_each_failed_read(rt: HostRuntime) {
-    for (piece, reads) in [(1, 110), (1000, 2)] {
-        assert_eq!(rt; count_reads(&rt, piece), reads, "{piece} bytes a read");
+    for (piece, reads) in [(1, 128), (1000, 2)] {
+        assert!(rt;
+            count_reads(&rt, piece) == Some(reads),
+            "{piece} bytes a read"
+        );
     }
 }
 
-// Lets each write of a session fail until none does, and returns how many there are. A write takes so many bytes.
-fn count_writes<R: AllocGlobal + Abort>(rt: &R, piece: usize) -> usize {
+// Lets each write of a session fail until none does, and returns how many there are; `None` if a connection gets anything
+// but a first part of the replies. A write takes so many bytes.
+fn count_writes(rt: &HostRuntime, piece: usize) -> Option<usize> {
     for good in 0..1000 {
         let mut output = Output::new(rt.alloc(), piece);
         output.fails_after = Some(good);
@@ -65,24 +96,30 @@ fn count_writes<R: AllocGlobal + Abort>(rt: &R, piece: usize) -> usize {
         let mut connection = Connection { input, output };
         let ended = serve_over(rt, &FILES, &mut connection);
         let written = &connection.output.bytes;
-        assert!(rt;
-            WRITTEN.starts_with(written) && connection.output.calls == good,
-            "after {good} writes"
-        );
-        if ended == (3, "finished") && written.len() == WRITTEN.len() {
-            return good;
+        if !WRITTEN.starts_with(written) || connection.output.calls != good {
+            return None;
         }
-        assert!(rt; ended == (0, "write failed"), "after {good} writes");
+        if ended == (3, "finished") && written.len() == WRITTEN.len() {
+            return Some(good);
+        }
+        if ended != (0, "write failed") {
+            return None;
+        }
     }
-    1000
+    None
 }
 
+// rule: Head of a reply
+// rule: Sending whole
 // rule: Session
 // A download has a write for its head and one for its bytes.
 #[test]
 fn writes_a_first_part_of_the_replies_before_each_failed_write(rt: HostRuntime) {
-    for (piece, writes) in [(1, 197), (1000, 4)] {
-        assert_eq!(rt; count_writes(&rt, piece), writes, "{piece} bytes a write");
+    for (piece, writes) in [(1, 215), (1000, 4)] {
+        assert!(rt;
+            count_writes(&rt, piece) == Some(writes),
+            "{piece} bytes a write"
+        );
     }
 }
 
@@ -101,23 +138,22 @@ fn count_letters(written: &[u8]) -> Option<usize> {
     }
 }
 
-// Lets each block of a download be unreadable until none is, and returns how many there are.
-fn count_blocks<R: AllocGlobal + Abort>(rt: &R) -> usize {
+// Lets each block of a download be unreadable until none is, and returns how many there are; `None` if a connection gets
+// anything but the blocks before.
+fn count_blocks(rt: &HostRuntime) -> Option<usize> {
     for good in 0..100 {
         let files = [letters(b"letters.bin", 200_000, 65536 * good as u64)];
         let packages = Shelf { files: &files };
         let mut connection = Connection::new(rt.alloc(), DOWNLOAD, usize::MAX);
         let ended = serve_over(rt, &packages, &mut connection);
         if ended == (2, "finished") {
-            return good;
+            return Some(good);
         }
-        assert!(rt; ended == (1, "cut"), "after {good} blocks");
-        assert!(rt;
-            count_letters(&connection.output.bytes) == Some(65536 * good),
-            "after {good} blocks"
-        );
+        if ended != (1, "cut") || count_letters(&connection.output.bytes) != Some(65536 * good) {
+            return None;
+        }
     }
-    100
+    None
 }
 
 // rule: Download of a package
@@ -125,5 +161,5 @@ fn count_blocks<R: AllocGlobal + Abort>(rt: &R) -> usize {
 // rule: File in memory
 #[test]
 fn sends_the_blocks_before_each_unreadable_one(rt: HostRuntime) {
-    assert_eq!(rt; count_blocks(&rt), 4);
+    assert!(rt; count_blocks(&rt) == Some(4));
 }

@@ -6,10 +6,6 @@
 #![tactic(auto)]
 
 #[cfg(test)]
-mod address_tests;
-#[cfg(test)]
-mod body_tests;
-#[cfg(test)]
 mod desks;
 #[cfg(test)]
 mod device_tests;
@@ -18,19 +14,13 @@ mod failing_session_tests;
 #[cfg(test)]
 mod folder_tests;
 #[cfg(test)]
-mod head_tests;
-#[cfg(test)]
 mod lines;
-#[cfg(test)]
-mod memory_tests;
 #[cfg(test)]
 mod package_tests;
 #[cfg(test)]
 mod queue_tests;
 #[cfg(test)]
 mod reply_tests;
-#[cfg(test)]
-mod rows;
 #[cfg(test)]
 mod scripted;
 #[cfg(test)]

@@ -13,36 +13,37 @@ pub(crate) fn columns(row: &str) -> [&str; 6] {
     columns
 }
 
-/// The bytes of a row, which are never freed: `~` is CR LF, `^` a lone LF, `@` NUL.
-pub(crate) fn expand(alloc: Global, text: &str) -> Option<&'static [u8]> {
-    let mut bytes = Vec::new(alloc);
+// Puts the bytes of a string at the end: `~` is CR LF, `^` a lone LF, `@` NUL.
+fn push_string(bytes: &mut Vec<u8>, text: &str) -> Result<(), AllocError> {
     for byte in text.as_bytes() {
-        let pushed = match *byte {
-            b'~' => bytes.extend_from_slice(b"\r\n"),
-            b'^' => bytes.extend_from_slice(b"\n"),
-            b'@' => bytes.extend_from_slice(b"\0"),
-            other => bytes.extend_from_slice(&[other]),
+        match *byte {
+            b'~' => bytes.extend_from_slice(b"\r\n")?,
+            b'^' => bytes.extend_from_slice(b"\n")?,
+            b'@' => bytes.extend_from_slice(b"\0")?,
+            other => bytes.extend_from_slice(&[other])?,
+        }
+    }
+    Ok(())
+}
+
+// Puts a string at the end as often as it says: `3*ab` is `ababab`.
+fn push_repeated(bytes: &mut Vec<u8>, text: &str) -> Result<(), AllocError> {
+    let (count, text) = text.split_once('*').unwrap_or(("0", ""));
+    for _ in 0..count.parse().unwrap_or(0u32) {
+        push_string(bytes, text)?;
+    }
+    Ok(())
+}
+
+/// The bytes of a column, which are never freed: what is repeated is between two `$`.
+pub(crate) fn expand(alloc: Global, column: &str) -> Option<&'static [u8]> {
+    let mut bytes = Vec::new(alloc);
+    for (index, part) in column.split('$').enumerate() {
+        let pushed = match index % 2 {
+            0 => push_string(&mut bytes, part),
+            _ => push_repeated(&mut bytes, part),
         };
         pushed.ok()?;
     }
     Some(bytes.leak())
-}
-
-fn push_head(head: &mut Vec<u8>, fields: usize, length: usize) -> Result<(), AllocError> {
-    head.extend_from_slice(b"GET / HTTP/1.1\r\n")?;
-    for _ in 1..fields {
-        head.extend_from_slice(b"X: y\r\n")?;
-    }
-    head.extend_from_slice(b"X: ")?;
-    if head.len() < length.saturating_sub(4) {
-        head.resize(length.saturating_sub(4), b'y')?;
-    }
-    head.extend_from_slice(b"\r\n\r\n")
-}
-
-/// A head of so many fields, the last of which fills it up to so many bytes. It is never freed.
-pub(crate) fn make_head(alloc: Global, fields: usize, length: usize) -> Option<&'static [u8]> {
-    let mut head = Vec::new(alloc);
-    push_head(&mut head, fields, length).ok()?;
-    Some(head.leak())
 }

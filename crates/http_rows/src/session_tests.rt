@@ -1,13 +1,11 @@
 use crate::desks::{Echo, FILES};
-use crate::lines::{columns, expand, make_head};
-use crate::rows::wrong_row;
+use crate::lines::{columns, expand};
 use crate::writers::STOPPED;
 use http_memory::{Connection, Shelf};
 use http_sessions::{End, Fault, Served, serve};
-use std::alloc::Global;
 
 // A row is what a connection sends, and what it gets: the replies, how many were begun, and how the
-// session ended. `~` is CR LF, `^` a lone LF.
+// session ended. `~` is CR LF, `^` a lone LF, `@` NUL, and what is repeated is between two `$`.
 const SESSIONS: &str = "\
 GET / HTTP/1.1~~|HTTP/1.1 404 Not Found~Content-Length: 0~~|1|finished
 GET /service/update2/json HTTP/1.1~~|HTTP/1.1 405 Method Not Allowed~Allow: POST~Content-Length: 0~~|1|finished
@@ -58,6 +56,63 @@ GET / HTTP/1.1~~~|HTTP/1.1 404 Not Found~Content-Length: 0~~|1|unfinished
 GET / HTTP/1.1~~GET  / HTTP/1.1~~|HTTP/1.1 404 Not Found~Content-Length: 0~~HTTP/1.1 400 Bad Request~Content-Length: 0~Connection: close~~|2|refused
 ";
 
+// The same of heads: which are none, how long the body is, and whether the connection ends. The length of a body is seen
+// from the message after it.
+const HEADS: &str = "\
+GET / HTTP/1.1^^|HTTP/1.1 404 Not Found~Content-Length: 0~~|1|finished
+~^GET / HTTP/1.1~~|HTTP/1.1 404 Not Found~Content-Length: 0~~|1|finished
+GET / HTTP/1.0~~|HTTP/1.1 404 Not Found~Content-Length: 0~Connection: close~~|1|finished
+GET / HTTP/1.0~Connection: keep-alive~~|HTTP/1.1 404 Not Found~Content-Length: 0~Connection: close~~|1|finished
+GET / HTTP/1.1~Connection: close~~|HTTP/1.1 404 Not Found~Content-Length: 0~Connection: close~~|1|finished
+GET / HTTP/1.1~connection:keep-alive ,\tCLOSE~~|HTTP/1.1 404 Not Found~Content-Length: 0~Connection: close~~|1|finished
+GET / HTTP/1.1~Connection: closed, x close~~|HTTP/1.1 404 Not Found~Content-Length: 0~~|1|finished
+GET / HTTP/1.1~Connection: upgrade~CONNECTION: close,~~|HTTP/1.1 404 Not Found~Content-Length: 0~Connection: close~~|1|finished
+GET / HTTP/1.1~X: close~~|HTTP/1.1 404 Not Found~Content-Length: 0~~|1|finished
+GET / HTTP/3.9~~|HTTP/1.1 400 Bad Request~Content-Length: 0~Connection: close~~|1|refused
+GET / HTTP/2.0~~|HTTP/1.1 400 Bad Request~Content-Length: 0~Connection: close~~|1|refused
+GET  / HTTP/1.1~~|HTTP/1.1 400 Bad Request~Content-Length: 0~Connection: close~~|1|refused
+GET / HTTP/1.1~X : y~~|HTTP/1.1 400 Bad Request~Content-Length: 0~Connection: close~~|1|refused
+GET / HTTP/1.1~X: y~ z~~|HTTP/1.1 400 Bad Request~Content-Length: 0~Connection: close~~|1|refused
+GET / HTTP/1.1~: y~~|HTTP/1.1 400 Bad Request~Content-Length: 0~Connection: close~~|1|refused
+GET / HTTP/1.1~X: @~~|HTTP/1.1 400 Bad Request~Content-Length: 0~Connection: close~~|1|refused
+GET / HTTP/1.1~||0|unfinished
+GET / HTTP/1.1~Content-Length: 5~||0|unfinished
+~~||0|unfinished
+POST / HTTP/1.1~~|HTTP/1.1 411 Length Required~Content-Length: 0~Connection: close~~|1|refused
+post / HTTP/1.1~~|HTTP/1.1 404 Not Found~Content-Length: 0~~|1|finished
+POST / HTTP/1.1~Content-Length: 5~~helloGET / HTTP/1.1~~|HTTP/1.1 404 Not Found~Content-Length: 0~~HTTP/1.1 404 Not Found~Content-Length: 0~~|2|finished
+POST / HTTP/1.1~CONTENT-LENGTH:\t5 ~~helloGET / HTTP/1.1~~|HTTP/1.1 404 Not Found~Content-Length: 0~~HTTP/1.1 404 Not Found~Content-Length: 0~~|2|finished
+POST / HTTP/1.1~Content-Length: 0000000000000000000000000000005~~helloGET / HTTP/1.1~~|HTTP/1.1 404 Not Found~Content-Length: 0~~HTTP/1.1 404 Not Found~Content-Length: 0~~|2|finished
+POST / HTTP/1.1~Content-Length: 00~~|HTTP/1.1 404 Not Found~Content-Length: 0~~|1|finished
+POST / HTTP/1.1~Content-Length: 262144~~||0|unfinished
+POST / HTTP/1.1~Content-Length: 262145~~|HTTP/1.1 413 Content Too Large~Content-Length: 0~Connection: close~~|1|refused
+GET / HTTP/1.1~Content-Length: 262145~~|HTTP/1.1 413 Content Too Large~Content-Length: 0~Connection: close~~|1|refused
+POST / HTTP/1.1~Content-Length: 18446744073709551616~~|HTTP/1.1 413 Content Too Large~Content-Length: 0~Connection: close~~|1|refused
+POST / HTTP/1.1~Content-Length: 18446744073709551621~~|HTTP/1.1 413 Content Too Large~Content-Length: 0~Connection: close~~|1|refused
+POST / HTTP/1.1~Content-Length: 5x~~|HTTP/1.1 400 Bad Request~Content-Length: 0~Connection: close~~|1|refused
+POST / HTTP/1.1~Content-Length: +5~~|HTTP/1.1 400 Bad Request~Content-Length: 0~Connection: close~~|1|refused
+POST / HTTP/1.1~Content-Length: -1~~|HTTP/1.1 400 Bad Request~Content-Length: 0~Connection: close~~|1|refused
+POST / HTTP/1.1~Content-Length: 5, 5~~|HTTP/1.1 400 Bad Request~Content-Length: 0~Connection: close~~|1|refused
+POST / HTTP/1.1~Content-Length: 0x5~~|HTTP/1.1 400 Bad Request~Content-Length: 0~Connection: close~~|1|refused
+POST / HTTP/1.1~Content-Length:~~|HTTP/1.1 400 Bad Request~Content-Length: 0~Connection: close~~|1|refused
+POST / HTTP/1.1~Content-Length: 5~Content-Length: 5~~|HTTP/1.1 400 Bad Request~Content-Length: 0~Connection: close~~|1|refused
+GET / HTTP/1.1~Content-Length: 5~content-length: 6~~|HTTP/1.1 400 Bad Request~Content-Length: 0~Connection: close~~|1|refused
+POST / HTTP/1.1~Transfer-Encoding: chunked~~|HTTP/1.1 501 Not Implemented~Content-Length: 0~Connection: close~~|1|refused
+POST / HTTP/1.1~Transfer-Encoding:~~|HTTP/1.1 501 Not Implemented~Content-Length: 0~Connection: close~~|1|refused
+POST / HTTP/1.1~Content-Length: 5~Transfer-Encoding: identity~~|HTTP/1.1 501 Not Implemented~Content-Length: 0~Connection: close~~|1|refused
+POST / HTTP/1.1~Content-Length: 5~Content-Length: 6~transfer-encoding: x~~|HTTP/1.1 501 Not Implemented~Content-Length: 0~Connection: close~~|1|refused";
+
+// The same of targets. Each package is known but `none.bin`, and `a` has a file.
+const TARGETS: &str = "\
+GET /p/a? HTTP/1.1~~|HTTP/1.1 200 OK~Content-Type: application/octet-stream~Content-Length: 3~~abc|1|finished
+GET /p/a#b HTTP/1.1~~|HTTP/1.1 200 OK~Content-Type: application/octet-stream~Content-Length: 3~~|1|cut
+GET /p/a%2Db/c HTTP/1.1~~|HTTP/1.1 200 OK~Content-Type: application/octet-stream~Content-Length: 3~~|1|cut
+GET /p/ HTTP/1.1~~|HTTP/1.1 200 OK~Content-Type: application/octet-stream~Content-Length: 3~~|1|cut
+GET /p?/p/a HTTP/1.1~~|HTTP/1.1 404 Not Found~Content-Length: 0~~|1|finished
+GET ?/p/a HTTP/1.1~~|HTTP/1.1 404 Not Found~Content-Length: 0~~|1|finished
+GET //p/a HTTP/1.1~~|HTTP/1.1 404 Not Found~Content-Length: 0~~|1|finished
+GET /P/a HTTP/1.1~~|HTTP/1.1 404 Not Found~Content-Length: 0~~|1|finished";
+
 fn end_of(served: Result<Served, Fault>) -> (u32, &'static str) {
     match served {
         Ok(served) => match served.end {
@@ -83,8 +138,8 @@ pub(crate) fn serve_over<R: AllocGlobal>(
     end_of(serve(rt, input, output, &mut desk, packages, &STOPPED))
 }
 
-/// Whether a connection that gives and takes so many bytes a call gets what its row says.
-pub(crate) fn is_served(rt: &HostRuntime, row: &str, piece: usize) -> Option<bool> {
+// Whether a connection that gives and takes so many bytes a call gets what its row says.
+fn is_served(rt: &HostRuntime, row: &str, piece: usize) -> Option<bool> {
     let [sent, replies, requests, how, _, _] = columns(row);
     let sent = expand(rt.alloc(), sent)?;
     let replies = expand(rt.alloc(), replies)?;
@@ -94,7 +149,35 @@ pub(crate) fn is_served(rt: &HostRuntime, row: &str, piece: usize) -> Option<boo
     Some(is_ended && connection.output.bytes.as_slice() == replies)
 }
 
+// Heads of 64 and 65 fields, and of 16384 and 16385 bytes; 999 messages, 1000, and 1001 of which the last gets no reply.
+const LIMITS: &str = "\
+GET / HTTP/1.1~$64*X: y~$~|HTTP/1.1 404 Not Found~Content-Length: 0~~|1|finished
+GET / HTTP/1.1~$65*X: y~$~|HTTP/1.1 400 Bad Request~Content-Length: 0~Connection: close~~|1|refused
+GET / HTTP/1.1~X: $16361*y$~~|HTTP/1.1 404 Not Found~Content-Length: 0~~|1|finished
+GET / HTTP/1.1~X: $16362*y$~~|HTTP/1.1 431 Request Header Fields Too Large~Content-Length: 0~Connection: close~~|1|refused
+GET / HTTP/1.1~$64*X: y~$X: $15978*y$~~|HTTP/1.1 431 Request Header Fields Too Large~Content-Length: 0~Connection: close~~|1|refused
+$999*GET / HTTP/1.1~~$|$999*HTTP/1.1 404 Not Found~Content-Length: 0~~$|999|finished
+$1000*GET / HTTP/1.1~~$|$999*HTTP/1.1 404 Not Found~Content-Length: 0~~$HTTP/1.1 404 Not Found~Content-Length: 0~Connection: close~~|1000|finished
+$1001*GET / HTTP/1.1~~$|$999*HTTP/1.1 404 Not Found~Content-Length: 0~~$HTTP/1.1 404 Not Found~Content-Length: 0~Connection: close~~|1000|finished";
+
+// Of each table: its rows, and how many bytes the connection gives and takes a call.
+const TABLES: [(&str, &[usize]); 4] = [
+    (SESSIONS, &[1, 7, 100_000]),
+    (HEADS, &[1, 7, 100_000]),
+    (TARGETS, &[1, 7, 100_000]),
+    (LIMITS, &[1000]),
+];
+
+// rule: Body of a request
+// rule: End of a connection
+// rule: End of a session
+// rule: Head of a request
+// rule: Length of a body
+// rule: Length of a message
 // rule: Messages of a connection
+// rule: Path of a package
+// rule: Path of a target
+// rule: Piece of a device in memory
 // rule: Rejection of a message
 // rule: Reply to a message
 // rule: Route of a message
@@ -103,86 +186,14 @@ pub(crate) fn is_served(rt: &HostRuntime, row: &str, piece: usize) -> Option<boo
 // rule: Use of a message
 #[test]
 fn serves_sessions_however_they_are_cut(rt: HostRuntime) {
-    for piece in [1, 7, 100000] {
-        let wrong = wrong_row(&rt, "session", piece, SESSIONS);
-        assert!(rt; wrong.is_empty(), "{wrong}, {piece} a call");
+    for (rows, pieces) in TABLES {
+        for piece in pieces {
+            for row in rows.lines() {
+                assert!(rt;
+                    is_served(&rt, row, *piece) == Some(true),
+                    "{row}, {piece} a call"
+                );
+            }
+        }
     }
-}
-
-// Whether a connection that sends so much and no more gets no reply, and how its session ends.
-fn ends_without_reply(rt: &HostRuntime, sent: &[u8], how: &str) -> bool {
-    let mut connection = Connection::new(rt.alloc(), sent, 7);
-    let ended = serve_over(rt, &FILES, &mut connection);
-    ended == (0, how) && connection.output.bytes.is_empty()
-}
-
-// A message of 30 bytes of body, cut before each byte.
-const MESSAGE: &[u8] =
-    b"POST /service/update2/json HTTP/1.1\r\nContent-Length: 30\r\n\r\n{\"request\":{\"protocol\":\"3.1\"}}";
-
-// rule: End of a session
-#[test]
-fn gives_no_reply_to_a_part_of_a_message(rt: HostRuntime) {
-    for end in 0..MESSAGE.len() {
-        let how = if end == 0 { "finished" } else { "unfinished" };
-        assert!(rt;
-            ends_without_reply(&rt, &MESSAGE[..end], how),
-            "{end} bytes"
-        );
-    }
-}
-
-// The messages of a row: a head of so many fields and bytes, or, if no fields are named, so many messages.
-fn make_messages(alloc: Global, fields: &str, count: &str) -> Option<&'static [u8]> {
-    let count = count.parse().unwrap_or(0);
-    match fields.parse() {
-        Ok(fields) => make_head(alloc, fields, count),
-        Err(_) => Some(
-            "GET / HTTP/1.1\r\n\r\n"
-                .repeat(alloc, count)
-                .ok()?
-                .into_bytes()
-                .leak(),
-        ),
-    }
-}
-
-/// Whether a session ends as its row says: what is sent, the size of the replies or how they begin, how many there are,
-/// and how it ends.
-pub(crate) fn ends_so(rt: &HostRuntime, row: &str) -> Option<bool> {
-    let [fields, count, start, requests, how, _] = columns(row);
-    let sent = make_messages(rt.alloc(), fields, count)?;
-    let mut connection = Connection::new(rt.alloc(), sent, 1000);
-    let ended = serve_over(rt, &FILES, &mut connection);
-    let replies = connection.output.bytes.as_slice();
-    let is_started = start.parse() == Ok(replies.len()) || replies.starts_with(start.as_bytes());
-    Some(is_started && ended.1 == how && requests.parse() == Ok(ended.0))
-}
-
-// The last reply has 19 bytes more, which say that the connection ends.
-const MESSAGES: &str = "\
-|999|44955|999|finished
-|1000|45019|1000|finished
-|1001|45019|1000|finished";
-
-// rule: End of a session
-#[test]
-fn closes_after_a_thousand_messages(rt: HostRuntime) {
-    let wrong = wrong_row(&rt, "end", 0, MESSAGES);
-    assert!(rt; wrong.is_empty(), "{wrong}");
-}
-
-// A head of so many fields and bytes.
-const HEADS: &str = "\
-64|0|HTTP/1.1 404|1|finished
-65|0|HTTP/1.1 400|1|refused
-1|16384|HTTP/1.1 404|1|finished
-1|16385|HTTP/1.1 431|1|refused
-65|16385|HTTP/1.1 431|1|refused";
-
-// rule: Length of a message
-#[test]
-fn bounds_the_fields_and_the_length_of_a_head(rt: HostRuntime) {
-    let wrong = wrong_row(&rt, "end", 0, HEADS);
-    assert!(rt; wrong.is_empty(), "{wrong}");
 }

@@ -22,7 +22,7 @@ fn show(alloc: Global, log: &AccessLog<'_, FixedClock, Paper>, script: &str) -> 
 }
 
 // Whether the log of a script has these lines, over a disk with room for so many bytes until so many writes failed.
-fn logs(alloc: Global, script: &str, lines: &str, room: usize, fails: usize) -> bool {
+fn logs(alloc: Global, script: &str, room: usize, fails: usize, lines: &str) -> bool {
     let mut paper = Paper {
         bytes: Vec::new(alloc),
         room,
@@ -34,8 +34,12 @@ fn logs(alloc: Global, script: &str, lines: &str, room: usize, fails: usize) -> 
     shown.is_some() && paper.bytes.as_slice() == lines.as_bytes()
 }
 
-// Each row: a script, and the lines of its log.
-const SCRIPTS: [(&str, &str); 5] = [
+// Two messages and their replies.
+const TWO: &str =
+    "+\n>GET /a HTTP/1.1~~\n<HTTP/1.1 404 Not Found~~\n+\n>GET /b HTTP/1.1~~\n<HTTP/1.1 404 Not Found~~\n.\n";
+
+// Each row: a script, the room of the disk and how many writes fail then, and the lines of the log.
+const SCRIPTS: [(&str, usize, usize, &str); 8] = [
     // a reply has a line
     (
         "\
@@ -45,6 +49,8 @@ const SCRIPTS: [(&str, &str); 5] = [
 <abc
 .
 ",
+        0,
+        0,
         "- - - [24/Nov/2026:09:30:05 +0000] \"GET /p/a.bin HTTP/1.1\" 200 3 \"http://h/\" \"curl/8.5.0\"\n",
     ),
     // each reply of a connection has a line
@@ -60,13 +66,15 @@ const SCRIPTS: [(&str, &str); 5] = [
 +
 .
 ",
+        0,
+        0,
         concat!(
             "- - - [24/Nov/2026:09:30:05 +0000] \"GET /a HTTP/1.1\" 404 0 \"-\" \"-\"\n",
             "- - - [24/Nov/2026:09:30:05 +0000] \"GET /b HTTP/1.1\" 404 0 \"-\" \"-\"\n",
         ),
     ),
     // without a reply there is no line
-    ("+\n>GET /a HT\n.\n+\n.\n", ""),
+    ("+\n>GET /a HT\n.\n+\n.\n", 0, 0, ""),
     // control characters are escaped
     (
         "\
@@ -75,62 +83,36 @@ const SCRIPTS: [(&str, &str); 5] = [
 <HTTP/1.1 400 Bad Request~Content-Length: 0~Connection: close~~
 .
 ",
+        0,
+        0,
         "- - - [24/Nov/2026:09:30:05 +0000] \"GET /\\x1B[2J\\x22\\x5C\\xC3\\xA9 HTTP/1.1\" 400 0 \"-\" \"-\"\n",
     ),
     // a reply that is cut has a line
     (
         "+\n>GET /a HTTP/1.1~~\n<HTTP/1.1 200 OK~Content-Le\n.\n",
+        0,
+        0,
         "- - - [24/Nov/2026:09:30:05 +0000] \"GET /a HTTP/1.1\" 200 0 \"-\" \"-\"\n",
+    ),
+    // a full disk joins no lines
+    (TWO, 0, 2, ""),
+    (TWO, 8, 2, "- - - [2"),
+    (
+        TWO,
+        8,
+        1,
+        concat!(
+            "- - - [2\n",
+            "- - - [24/Nov/2026:09:30:05 +0000] \"GET /b HTTP/1.1\" 404 0 \"-\" \"-\"\n",
+        ),
     ),
 ];
 
-// Two messages and their replies.
-const LOST: &str =
-    "+\n>GET /a HTTP/1.1~~\n<HTTP/1.1 404 Not Found~~\n+\n>GET /b HTTP/1.1~~\n<HTTP/1.1 404 Not Found~~\n.\n";
-
-// A part of the line of the first, and the line of the second.
-const AFTER_A_PART: &str = concat!(
-    "- - - [2\n",
-    "- - - [24/Nov/2026:09:30:05 +0000] \"GET /b HTTP/1.1\" 404 0 \"-\" \"-\"\n",
-);
-
 // rule: Line of the log
-#[test]
-fn each_reply_has_a_line(rt: HostRuntime) {
-    for (script, lines) in SCRIPTS {
-        assert!(rt; logs(rt.alloc(), script, lines, 0, 0), "{lines}");
-    }
-}
-
 // rule: Lost line of the log
 #[test]
-fn a_full_disk_joins_no_lines(rt: HostRuntime) {
-    assert!(rt; logs(rt.alloc(), LOST, "", 0, 2));
-    assert!(rt; logs(rt.alloc(), LOST, "- - - [2", 8, 2));
-    assert!(rt; logs(rt.alloc(), LOST, AFTER_A_PART, 8, 1));
-}
-
-// Shows a log a message and a reply of 100,000 bytes each.
-fn show_long(log: &AccessLog<'_, FixedClock, Paper>) {
-    log.begins(b"");
-    log.reads(b"POST /a HTTP/1.1\r\n\r\n");
-    for _ in 0..100 {
-        log.reads(&[b'x'; 1000]);
-        log.writes(&[b'y'; 1000]);
+fn each_reply_has_a_line_as_far_as_the_disk_has_room(rt: HostRuntime) {
+    for (script, room, fails, lines) in SCRIPTS {
+        assert!(rt; logs(rt.alloc(), script, room, fails, lines), "{lines}");
     }
-    log.ends();
-}
-
-#[test]
-fn a_long_message_has_its_first_line(rt: HostRuntime) {
-    let mut paper = Paper {
-        bytes: Vec::new(rt.alloc()),
-        room: 0,
-        fails: 0,
-    };
-    let log = AccessLog::new(rt.alloc(), &STOPPED, &mut paper);
-    show_long(&log);
-    drop(log);
-    let wanted = b"- - - [24/Nov/2026:09:30:05 +0000] \"POST /a HTTP/1.1\" - 0 \"-\" \"-\"\n";
-    assert!(rt; paper.bytes.as_slice() == wanted.as_slice());
 }
