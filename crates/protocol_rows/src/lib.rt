@@ -1,19 +1,14 @@
-//! Rows of requests and replies whose bytes and records were worked out by hand, of a server and of a client.
+//! Rows of requests and replies whose bytes and records were worked out by hand, of a client.
 //!
-//! `requests` has the bytes of requests, hostile ones too, and `bodies` records of replies;
-//! `client_requests` what a client writes and `replies` what it reads; `walks`,
-//! `failing_walks` and `update_client_replies` an update client over memory: what its downloads hold, and how far it
-//! goes, whatever call of its link or its installer fails.
-//! It holds tests alone. The laws of `omaha_json` have further rows.
+//! `out_of_memory_tests` has what a client writes and `replies` what it reads; `walks`, `failing_walks` and
+//! `update_client_replies` an update client over memory: what its downloads hold, and how far it goes, whatever call of
+//! its link or its installer fails.
+//! It holds tests alone. What a server reads and writes is in rows of the program, and in the laws of `omaha_json`.
 
 #![tactic(auto)]
 
 #[cfg(test)]
-mod bodies;
-#[cfg(test)]
 mod body;
-#[cfg(test)]
-mod client_requests;
 #[cfg(test)]
 mod countdown;
 #[cfg(test)]
@@ -24,8 +19,6 @@ mod link;
 mod out_of_memory_tests;
 #[cfg(test)]
 mod replies;
-#[cfg(test)]
-mod requests;
 #[cfg(test)]
 mod rows;
 #[cfg(test)]

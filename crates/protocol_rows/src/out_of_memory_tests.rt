@@ -2,19 +2,27 @@
 //
 // In the gate no allocation fails. `make allocations` lets each one of a test fail in turn, so of two tries one fails at most.
 
-use crate::bodies::{UNKNOWN, unknown_bytes};
-use crate::client_requests::{DOWNGRADE, downgrade_bytes};
+ghost use Rattle.std.specs.Prelude.{◌<◌, ◌≤◌, length};
+ghost use Rattle.omaha_json.specs.ReplyWriting.{IsStateWritable};
+
 use crate::two_steps::walk_in_pieces;
 use crate::walks::client_of;
-use omaha_json::{read_reply, read_request};
-use std::alloc::Global;
+use omaha_json::{
+    AppAsk, AppReply, AppState, Reply, Request, read_reply, read_request, write_reply,
+    write_request,
+};
+use std::alloc::{AllocError, Global};
 use update_client::{Client, Fault, Walk};
-use values::ReadError;
+use values::{Items, ReadError, Text};
 
 // Whether one of two tries came to what it should, and none to anything else; `None` is a try that ran out of memory.
 fn are_right(first: Option<bool>, second: Option<bool>) -> bool {
     first != Some(false) && second != Some(false) && (first.is_some() || second.is_some())
 }
+
+// The request of a client that may be downgraded.
+const DOWNGRADE: &str =
+    r#"{"request":{"app":[{"appid":"demo","cohort":"","cohorthint":"be\"ta","packages":{"package":[{"fp":"1.x"}]},"updatecheck":{"rollback_allowed":true,"targetversionprefix":"4.","updatedisabled":false},"version":"1.0"}],"protocol":"3.1","sessionid":"abc"}}"#;
 
 // Whether a request is read.
 fn reads_request(alloc: Global) -> Option<bool> {
@@ -31,6 +39,10 @@ fn read_request_without_memory(rt: HostRuntime) {
     assert!(rt; are_right(reads_request(rt.alloc()), reads_request(rt.alloc())));
 }
 
+// The reply for an unknown app at day 6940 and second 3661.
+const UNKNOWN: &str = r#")]}'
+{"response":{"app":[{"appid":"\"\\\n","status":"error-unknownApplication"}],"daystart":{"elapsed_days":6940,"elapsed_seconds":3661},"protocol":"3.1"}}"#;
+
 // Whether a reply is read.
 fn reads_reply(alloc: Global) -> Option<bool> {
     match read_reply(alloc, UNKNOWN.as_bytes()) {
@@ -46,6 +58,26 @@ fn read_reply_without_memory(rt: HostRuntime) {
     assert!(rt; are_right(reads_reply(rt.alloc()), reads_reply(rt.alloc())));
 }
 
+fn written(alloc: Global, app: AppReply) -> Result<Vec<u8>, AllocError>
+    requires { IsStateWritable app.state }
+{
+    let apps = Items::new(vec![in alloc; app]?);
+    let (days, seconds) = (6940, 3661);
+    let reply = Reply {
+        days,
+        seconds,
+        apps,
+    };
+    write_reply(alloc, &reply)
+}
+
+// The bytes that are written for it.
+fn unknown_bytes(alloc: Global) -> Result<Vec<u8>, AllocError> {
+    let appid = Text::copy_of(alloc, "\"\\\n")?;
+    let state = AppState::Unknown;
+    written(alloc, AppReply { appid, state })
+}
+
 // Whether a reply has its bytes.
 fn writes_reply(alloc: Global) -> Option<bool> {
     let bytes = unknown_bytes(alloc).ok()?;
@@ -58,16 +90,50 @@ fn write_reply_without_memory(rt: HostRuntime) {
     assert!(rt; are_right(writes_reply(rt.alloc()), writes_reply(rt.alloc())));
 }
 
-// Whether a request has its bytes.
-fn writes_request(alloc: Global) -> Option<bool> {
-    let bytes = downgrade_bytes(alloc).ok()?;
-    Some(bytes.as_slice() == DOWNGRADE.as_bytes())
+// A ping with two events.
+const PING: &str =
+    r#"{"request":{"app":[{"appid":"demo","cohort":"","cohorthint":"be\"ta","event":[{},{}],"packages":{"package":[{"fp":""}]},"ping":{},"version":"1.0"}],"protocol":"3.1","sessionid":"abc"}}"#;
+
+fn first_ask(alloc: Global, request: &str) -> Option<AppAsk> {
+    let request = read_request(alloc, request.as_bytes()).ok()?;
+    request.apps.into_vec().pop()
+}
+
+fn bytes_of(alloc: Global, ask: AppAsk) -> Option<Vec<u8>>
+    requires some { 0 < length ask.appid }
+    requires short { length ask.appid ≤ 256 }
+{
+    let apps = Items::new(vec![in alloc; ask].ok()?);
+    let session = Text::copy_of(alloc, "abc").ok()?;
+    let request = Request { session, apps };
+    write_request(alloc, &request).ok()
+}
+
+// The bytes of what is read of a request of session `abc` for `demo`.
+fn rewritten(alloc: Global, request: &str) -> Option<Vec<u8>> {
+    let appid = Text::copy_of(alloc, "demo").ok()?;
+    let mut ask = first_ask(alloc, request)?;
+    ask.appid = appid;
+    bytes_of(alloc, ask)
+}
+
+// Whether a request is written as it was read.
+fn writes_request(alloc: Global, request: &str) -> Option<bool> {
+    let bytes = rewritten(alloc, request)?;
+    Some(bytes.as_slice() == request.as_bytes())
 }
 
 // rule: Bytes of a request
 #[test]
 fn write_request_without_memory(rt: HostRuntime) {
-    assert!(rt; are_right(writes_request(rt.alloc()), writes_request(rt.alloc())));
+    let alloc = rt.alloc();
+    assert!(rt;
+        are_right(
+            writes_request(alloc, DOWNGRADE),
+            writes_request(alloc, DOWNGRADE)
+        )
+    );
+    assert!(rt; are_right(writes_request(alloc, PING), writes_request(alloc, PING)));
 }
 
 // Whether a walk came to its end, which was the right one; `None` if it ran out of memory and left the client at its last

@@ -105,6 +105,7 @@ fn check_rows(
     Ok(())
 }
 
+// Whole replies: what is read of them, or the first fault.
 const FAULTS: &str = r#"K1 NoPrefix | {}
 K1 NoPrefix | 
 K1 NoPrefix | )]}
@@ -127,14 +128,7 @@ K5 BadOffer 0 | )]}'{"response":{"app":[{"appid":1,"status":"ok"}],"protocol":"3
 K5 BadOffer 1 | )]}'{"response":{"app":[{"appid":"a","status":"x"},{"appid":"b"}],"protocol":"3.1"}}
 K5 BadOffer 0 | )]}'{"response":{"app":[{"appid":"a","status":"ok","updatecheck":{"status":"ok"}}],"protocol":"3.1"}}"#;
 
-// rule: Faults of a reply
-// rule: Printed fault of a reply
-#[test]
-fn reports_the_first_fault_of_a_reply(rt: HostRuntime) -> Result<(), Fail> {
-    check_rows(&rt, rt.alloc(), FAULTS, "", "")?;
-    Ok(())
-}
-
+// Apps without an offer.
 const APP_FRONT: &str = r#")]}'
 {"response":{"protocol":"3.1","app":["#;
 
@@ -152,12 +146,7 @@ const APPS: &str = r#"0 0; a unknown | {"appid":"a","status":"error-unknownAppli
 0 0; a c n false 0 another | {"appid":"a","status":"ok","updatecheck":null}
 0 0; a unknown | {"appid":"a","status":"error-unknownApplication","updatecheck":{"status":"ok"}}"#;
 
-#[test]
-fn reads_apps_without_an_offer(rt: HostRuntime) -> Result<(), Fail> {
-    check_rows(&rt, rt.alloc(), APPS, APP_FRONT, APP_BACK)?;
-    Ok(())
-}
-
+// Packages of an offer, at their limits.
 const OFFER_FRONT: &str = r#")]}'
 {"response":{"protocol":"3.1","app":[{"appid":"a","status":"ok","updatecheck":{"status":"ok","urls":{"url":[{"codebase":1},{"codebasediff":"d/"},{"codebase":"u/"},{"codebase":"w/"}]},"manifest":{"version":"2.0","packages":{"package":["#;
 
@@ -184,14 +173,7 @@ K5 BadOffer 0 | {"fp":"x","name":"n","size":1,"hash_sha256":"1111111111111111111
 K5 BadOffer 0 | {"fp":"x","name":"n","size":1,"hash_sha256":"1111111111111111111111111111111111111111111111111111111111111111","namediff":"m","sizediff":0,"hashdiff_sha256":"abababababababababababababababababababababababababababababababab"}
 K5 BadOffer 0 | {"fp":"x","name":"n","size":1,"hash_sha256":"1111111111111111111111111111111111111111111111111111111111111111","namediff":null,"sizediff":3,"hashdiff_sha256":"abababababababababababababababababababababababababababababababab"}"#;
 
-// rule: Differential in a reply
-// rule: Offer that is read
-#[test]
-fn reads_offers_at_their_limits(rt: HostRuntime) -> Result<(), Fail> {
-    check_rows(&rt, rt.alloc(), OFFERS, OFFER_FRONT, OFFER_BACK)?;
-    Ok(())
-}
-
+// No offer is read without its version.
 const VERSION_FRONT: &str = r#")]}'
 {"response":{"protocol":"3.1","app":[{"appid":"a","status":"ok","updatecheck":{"status":"ok","urls":{"url":[{"codebase":"u/"}]},"manifest":{"packages":{"package":[{"fp":"x","name":"n","size":1,"hash_sha256":"1111111111111111111111111111111111111111111111111111111111111111"}]}"#;
 
@@ -205,13 +187,7 @@ K5 BadOffer 0 | ,"version":2.0
 K5 BadOffer 0 | ,"version":null
 K5 BadOffer 0 | ,"versions":"2.0""#;
 
-// rule: Offer that is read
-#[test]
-fn reads_no_offer_without_its_version(rt: HostRuntime) -> Result<(), Fail> {
-    check_rows(&rt, rt.alloc(), VERSIONS, VERSION_FRONT, VERSION_BACK)?;
-    Ok(())
-}
-
+// The first address of each kind is read.
 const ADDRESS_FRONT: &str = r#")]}'
 {"response":{"protocol":"3.1","app":[{"appid":"a","status":"ok","updatecheck":{"status":"ok","manifest":{"version":"2.0","packages":{"package":[{"fp":"x","name":"n","size":1,"hash_sha256":"1111111111111111111111111111111111111111111111111111111111111111","namediff":"m","sizediff":3,"hashdiff_sha256":"abababababababababababababababababababababababababababababababab"}]}},"urls":{"url":["#;
 
@@ -225,9 +201,24 @@ K5 BadOffer 0 | {"codebasediff":"d/"}
 K5 BadOffer 0 | {"codebase":0}
 K5 BadOffer 0 | "#;
 
+// The tables with what comes before and after the middle of each row.
+const TABLES: &[(&str, &str, &str)] = &[
+    (FAULTS, "", ""),
+    (APPS, APP_FRONT, APP_BACK),
+    (OFFERS, OFFER_FRONT, OFFER_BACK),
+    (VERSIONS, VERSION_FRONT, VERSION_BACK),
+    (ADDRESSES, ADDRESS_FRONT, ADDRESS_BACK),
+];
+
 // rule: Address in a reply
+// rule: Differential in a reply
+// rule: Faults of a reply
+// rule: Offer that is read
+// rule: Printed fault of a reply
 #[test]
-fn reads_the_first_addresses(rt: HostRuntime) -> Result<(), Fail> {
-    check_rows(&rt, rt.alloc(), ADDRESSES, ADDRESS_FRONT, ADDRESS_BACK)?;
+fn reads_replies_or_reports_their_first_fault(rt: HostRuntime) -> Result<(), Fail> {
+    for table in TABLES {
+        check_rows(&rt, rt.alloc(), table.0, table.1, table.2)?;
+    }
     Ok(())
 }

@@ -13,18 +13,6 @@ pub(crate) fn between(
     format!(in alloc; "{front}{middle}{back}")
 }
 
-/// The parts of a row before and after its first space; without one the second part is empty.
-pub(crate) fn two_words(row: &str) -> (&str, &str) {
-    row.split_once(' ').unwrap_or((row, ""))
-}
-
-/// The parts of a row of two such.
-pub(crate) fn three_words(row: &str) -> (&str, &str, &str) {
-    let (first, others) = two_words(row);
-    let (second, third) = two_words(others);
-    (first, second, third)
-}
-
 /// Asserts that what is found for a row is what it wants.
 pub(crate) fn check(rt: &impl Abort, found: &str, want: &str, row: &str) {
     assert_eq!(rt; found, want, "{row}");

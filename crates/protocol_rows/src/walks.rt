@@ -185,6 +185,7 @@ fn check_rows(rt: &impl Abort, alloc: Global, rows: &str) -> Result<(), AllocErr
     Ok(())
 }
 
+// What is offered is installed.
 const WALKS: &str =
     r#"0 - - | 1 offer s:7 1.0 a- abc;1 offer s:7 2.0 b- abcd*14 abcdefghijk;1 check noupdate | abc abcdefghijk |  = 2 steps 14 bytes, 2.0 b-0 s:7, 0, u/full.bin d/diff.bin , full 1.0 a-0 3;diff 2.0 b-0 11;
 1.0 a-0 s:7 | 1 check noupdate |  |  = 0 steps 0 bytes, 1.0 a-0 s:7, 0, , 
@@ -192,29 +193,13 @@ const WALKS: &str =
 1.0 a-0 s:7 | 1 offer - 2.0 b- abc;1 check noupdate | abc |  = 1 steps 3 bytes, 2.0 b-0 s:7, 0, u/full.bin , full 2.0 b-0 3;
 1.0 a-0 s:7 | 1 offer - 2.0 b- a*131072;1 check noupdate | a*131072 | 1 = 1 steps 131072 bytes, 2.0 b-0 s:7, 0, u/full.bin , full 2.0 b-0 131072;"#;
 
-// rule: Address of a download
-// rule: Client after a step
-// rule: Steps of a walk
-#[test]
-fn installs_what_is_offered(rt: HostRuntime) -> Result<(), Fail> {
-    check_rows(&rt, rt.alloc(), WALKS)?;
-    Ok(())
-}
-
 // Each request of a walk has the client's prefix.
 const PINNED: &str =
     r#"1.0 a-0 s:7 pin:2. | 1 offer s:7 2.0 b- abc;1 offer s:7 2.1 c- abc;1 check noupdate | abc |  = 2 steps 6 bytes, 2.1 c-0 s:7, 0, pin:2. u/full.bin pin:2. u/full.bin pin:2. , full 2.0 b-0 3;full 2.1 c-0 3;
 1.0 a-0 s:7 pin:1.0$ | 1 check noupdate |  |  = 0 steps 0 bytes, 1.0 a-0 s:7, 0, pin:1.0$ , 
 1.0 a-0 s:7 pin: | 1 check noupdate |  |  = 0 steps 0 bytes, 1.0 a-0 s:7, 0, , "#;
 
-// rule: Request of a client
-// rule: Client after a step
-#[test]
-fn sends_its_prefix_at_each_step(rt: HostRuntime) -> Result<(), Fail> {
-    check_rows(&rt, rt.alloc(), PINNED)?;
-    Ok(())
-}
-
+// Each fault.
 const FAULTS: &str = r#"1.0 a s | 1 {} |  |  = U2 Reply, 1.0 a s, 0, , 
 1.0 a s | 1 )]}'x |  |  = U2 Reply, 1.0 a s, 0, , 
 1.0 a s | 1 )]}'{} |  |  = U2 Reply, 1.0 a s, 0, , 
@@ -238,15 +223,7 @@ const FAULTS: &str = r#"1.0 a s | 1 {} |  |  = U2 Reply, 1.0 a s, 0, ,
 1.0 a s | 1 offer t 2.0 b- abc;1 offer t 3.0 c- abc | abc abd |  = U4 BadHash, 2.0 b-0 t, 0, u/full.bin u/full.bin , full 2.0 b-0 3;
 1.0 a s | 1 offer t 2.0 b- abc;1 check error-internal | abc |  = U8 Busy, 2.0 b-0 t, 0, u/full.bin , full 2.0 b-0 3;"#;
 
-// rule: Download that is installed
-// rule: Printed fault of a client
-// rule: Reply that a client hears
-#[test]
-fn reports_each_fault(rt: HostRuntime) -> Result<(), Fail> {
-    check_rows(&rt, rt.alloc(), FAULTS)?;
-    Ok(())
-}
-
+// Each call of the link fails in turn, and then each of the installer: the last commit is kept.
 const FAILED_CALLS: &str =
     r#"1.0 a s | 1 offer t 2.0 b- abc;1 offer t 3.0 c- abcde abcd;1 check noupdate | abc abcd | - 0 = U1 Link, 1.0 a s, 0, , 
 1.0 a s | 1 offer t 2.0 b- abc;1 offer t 3.0 c- abcde abcd;1 check noupdate | abc abcd | - 1 = U1 Link, 1.0 a s, 0, u/full.bin , 
@@ -263,8 +240,18 @@ const FAILED_CALLS: &str =
 1.0 a s | 1 offer t 2.0 b- abc;1 offer t 3.0 c- abcde abcd;1 check noupdate | abc abcd | - - 2 = U5 Install, 2.0 b-0 t, 0, u/full.bin d/diff.bin , full 2.0 b-0 3;
 1.0 a s | 1 offer t 2.0 b- abc;1 offer t 3.0 c- abcde abcd;1 check noupdate | abc abcd | - - 3 = U5 Install, 2.0 b-0 t, 0, u/full.bin d/diff.bin , full 2.0 b-0 3;"#;
 
+// rule: Address of a download
+// rule: Client after a step
+// rule: Download that is installed
+// rule: Printed fault of a client
+// rule: Reply that a client hears
+// rule: Request of a client
+// rule: Steps of a walk
 #[test]
-fn keeps_its_last_commit_at_each_failed_call(rt: HostRuntime) -> Result<(), Fail> {
+fn walks_as_far_as_it_can(rt: HostRuntime) -> Result<(), Fail> {
+    check_rows(&rt, rt.alloc(), WALKS)?;
+    check_rows(&rt, rt.alloc(), PINNED)?;
+    check_rows(&rt, rt.alloc(), FAULTS)?;
     check_rows(&rt, rt.alloc(), FAILED_CALLS)?;
     Ok(())
 }
