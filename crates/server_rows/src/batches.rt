@@ -1,7 +1,7 @@
 // Editions that the tests begin with.
 
 use editions::Edition;
-use fixtures::{STAGED, edition_after};
+use fixtures::edition_after;
 use std::alloc::Global;
 
 /// App `mini` with releases 1.0, 2.0 and 3.0, and no target.
@@ -42,11 +42,3 @@ pub(crate) const TARGET: &str = "set_target mini stable 2.0 -";
 pub(crate) fn small(alloc: Global) -> Option<&'static Edition> {
     edition_after(alloc, MINI, TARGET)
 }
-
-/// The edition of app `demo` after edits: half of `stable` has 4.0 and is else held at 3.0, the open `beta` has 3.0.
-pub(crate) fn demo(alloc: Global, edits: &str) -> Option<&'static Edition> {
-    edition_after(alloc, STAGED, edits)
-}
-
-/// The edit that adds a cohort of `demo` without a target.
-pub(crate) const IDLE: &str = "add_cohort demo idle";

@@ -4,7 +4,6 @@
 
 use crate::asking::reply_to;
 use crate::batches::small;
-use crate::bodies::{STORED, STORED_REPLY};
 use crate::plans::print_plan;
 use crate::press_tests::open_one;
 use cohorts::CohortText;
@@ -111,22 +110,36 @@ fn publish_without_memory(rt: HostRuntime) {
     assert!(rt; are_right(first, opens_and_publishes(&rt, rt.alloc())));
 }
 
-// Whether a name and a bucket are printed.
-fn prints_cohort(alloc: Global) -> Option<bool> {
-    let text = CohortText::print(alloc, "stable", 319).ok()?;
-    Some(text.as_str() == "stable:319")
+// Whether a name and a bucket are printed so.
+fn prints(alloc: Global, name: &str, bucket: u16, wanted: &str) -> Option<bool> {
+    let text = CohortText::print(alloc, name, bucket).ok()?;
+    Some(text.as_str() == wanted)
+}
+
+// Whether names and buckets are printed as they are given.
+fn prints_cohorts(alloc: Global) -> Option<bool> {
+    let stable = prints(alloc, "stable", 319, "stable:319")?;
+    let beta = prints(alloc, "beta", 0, "beta:0")?;
+    let no_name = prints(alloc, "Not a name", 65535, "Not a name:65535")?;
+    let nothing = prints(alloc, "", 1000, ":1000")?;
+    Some(stable && beta && no_name && nothing)
 }
 
 // rule: Cohort text
 #[test]
 fn cohort_text_print_without_memory(rt: HostRuntime) {
-    assert!(rt; are_right(prints_cohort(rt.alloc()), prints_cohort(rt.alloc())));
+    assert!(rt; are_right(prints_cohorts(rt.alloc()), prints_cohorts(rt.alloc())));
 }
+
+// A stored request of `mini`.
+const STORED: &str =
+    r#"{"request":{"app":[{"appid":"mini","cohort":"stable:0","packages":{"package":[{"fp":"1.ba7816bf8f01cfea414140de5dae2223b00361a396177a9cb410ff61f20015ad"}]},"updatecheck":{},"version":"1.0"}],"protocol":"3.1","sessionid":"abc"}}
+"#;
 
 // Whether a plan has its choice.
 fn plans(alloc: Global) -> Option<bool> {
-    let plan = print_plan(alloc, small(alloc)?, r#"{"appid":"mini","updatecheck":{}}"#)?;
-    Some(plan.as_str() == "full 1 for 56")
+    let plan = print_plan(alloc, small(alloc)?, STORED)?;
+    Some(plan.as_str() == "full 1 for 56;")
 }
 
 // rule: Requested bytes
@@ -135,9 +148,13 @@ fn plan_without_memory(rt: HostRuntime) {
     assert!(rt; are_right(plans(rt.alloc()), plans(rt.alloc())));
 }
 
+// The reply to it.
+const STORED_REPLY: &str = r#")]}'
+{"response":{"app":[{"appid":"mini","cohort":"stable:0","cohortname":"stable","status":"ok","updatecheck":{"manifest":{"packages":{"package":[{"fp":"1.248d6a61d20638b8e5c026930c3e6039a33ce45964ff2167f6ecedd419db06c1","hash_sha256":"248d6a61d20638b8e5c026930c3e6039a33ce45964ff2167f6ecedd419db06c1","name":"mini-2.0.bin","size":56}]},"version":"2.0"},"status":"ok","urls":{"url":[{"codebase":"http://m0.example/p/"}]}}}],"daystart":{"elapsed_days":0,"elapsed_seconds":0},"protocol":"3.1"}}"#;
+
 // Whether a reply has its bytes.
 fn renders(alloc: Global) -> Option<bool> {
-    let reply = reply_to(alloc, small(alloc)?, STORED.as_bytes(), true, 0)?;
+    let reply = reply_to(alloc, small(alloc)?, STORED.as_bytes())?;
     Some(reply.as_slice() == STORED_REPLY.as_bytes())
 }
 

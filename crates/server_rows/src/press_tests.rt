@@ -3,7 +3,8 @@
 ghost use Rattle.std.specs.Prelude.{◌<◌, ◌≤◌};
 
 use crate::batches::{MINI, TARGET};
-use crate::rows::{Kind, is_found};
+use crate::plans::{chooses_after_withdrawal, chooses_before_withdrawal};
+use editions::Edition;
 use fixtures::{CHAINED, open_edits, open_profile, publish_edits};
 use publisher::{Press, PublishError, Receipt, View, meet};
 use std::alloc::Global;
@@ -11,10 +12,6 @@ use std::sync::Wait;
 use std::thread::Threads;
 
 const WITHDRAWAL: &str = "set_withdrawn demo 3.0 on";
-
-const BEFORE: &str = "differential 0 for 300 | 1,stable:0,false";
-
-const AFTER: &str = "differential 3 for 500 | 2,stable:0,false";
 
 /// A press of a profile, with its one view.
 pub(crate) fn open_one<R: Threads + Wait>(
@@ -35,13 +32,21 @@ pub(crate) fn open_one<R: Threads + Wait>(
     }
 }
 
-// Enters and leaves, and whether the edition of that number has a row.
-fn enter(alloc: Global, view: View, number: u64, row: &'static str) -> (View, bool) {
+// Whether an edition is the first one, or the second one after the withdrawal.
+fn is_edition(alloc: Global, edition: &Edition, number: u64) -> bool {
+    let leads = match number {
+        1 => chooses_before_withdrawal(alloc, edition),
+        _ => chooses_after_withdrawal(alloc, edition),
+    };
+    edition.number() == number && leads
+}
+
+// Enters and leaves, and whether the edition has that number.
+fn enter(alloc: Global, view: View, number: u64) -> (View, bool) {
     match view.enter() {
         Ok(entered) => {
-            let edition = entered.edition();
-            let is_row = edition.number() == number && is_found(alloc, Kind::Choice, edition, row);
-            (entered.leave(), is_row)
+            let is_right = is_edition(alloc, entered.edition(), number);
+            (entered.leave(), is_right)
         }
         Err(view) => (view, false),
     }
@@ -52,7 +57,7 @@ fn learn(alloc: Global, view: View, receipt: &Receipt) -> (View, bool) {
     let mut view = view;
     view.learn(receipt);
     let is_told = receipt.edition() == 2 && view.seen() == 2;
-    let (view, is_after) = enter(alloc, view, 2, AFTER);
+    let (view, is_after) = enter(alloc, view, 2);
     (view, is_told && is_after)
 }
 
@@ -65,7 +70,7 @@ fn is_met(alloc: Global, press: &Press, view: View, receipt: &Receipt) -> bool {
 
 // Whether a view enters the first edition, and the second one after it learnt its receipt.
 fn learns<R: Threads + Wait>(rt: &R, alloc: Global, press: &mut Press, view: View) -> bool {
-    let (view, is_before) = enter(alloc, view, 1, BEFORE);
+    let (view, is_before) = enter(alloc, view, 1);
     match publish_edits(rt, alloc, press, 1, WITHDRAWAL) {
         Ok(receipt) => is_before && is_met(alloc, press, view, &receipt),
         Err(_) => false,
@@ -166,8 +171,8 @@ fn opens<R: Threads + Wait>(rt: &R, alloc: Global, count: usize) -> bool
     let mut entered = 0usize;
     for view in views {
         let is_first = view.seen() == 1;
-        let (_view, is_row) = enter(alloc, view, 1, BEFORE);
-        if is_first && is_row {
+        let (_view, is_right) = enter(alloc, view, 1);
+        if is_first && is_right {
             entered = entered.saturating_add(1);
         }
     }

@@ -1,26 +1,25 @@
 // Two threads that enter editions while a third publishes.
 
-use crate::chains::DIFFERENTIAL;
-use crate::rows::{Kind, is_found};
+use crate::plans::chooses_before_withdrawal;
 use fixtures::{CHAINED, open_profile, publish_edits};
 use publisher::{Press, Receipt, View, may_enter, meet};
 use std::alloc::Global;
 use std::sync::Wait;
 use std::thread::{Threads, join};
 
-// A view, and whether its numbers never fell and each edition had the reply.
+// A view, and whether its numbers never fell and each edition had the choice.
 #[derive(Drop)]
 struct Entries {
     view: View,
     are_kept: bool,
 }
 
-// Enters once: the view, and the number of the edition; 0 if there was none or it had another reply.
+// Enters once: the view, and the number of the edition; 0 if there was none or it had another choice.
 fn enter(alloc: Global, view: View) -> (View, u64) {
     match view.enter() {
         Ok(entered) => {
             let edition = entered.edition();
-            let number = match is_found(alloc, Kind::Reply, edition, DIFFERENTIAL) {
+            let number = match chooses_before_withdrawal(alloc, edition) {
                 true => edition.number(),
                 false => 0,
             };
@@ -96,7 +95,7 @@ fn is_met(alloc: Global, press: &Press, entries: Entries, receipt: &Receipt) -> 
     are_kept && number == 101 && numbers == Some((101, 101)) && is_let_in(press, view)
 }
 
-// Whether two views of a press keep their numbers and the reply, and meet it at 101.
+// Whether two views of a press keep their numbers and the choice, and meet it at 101.
 fn are_met<R: Threads + Wait + Sync>(
     rt: &R,
     alloc: Global,
