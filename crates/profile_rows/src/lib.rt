@@ -1,26 +1,15 @@
-//! Rows of profiles and scripts whose edits and faults were worked out by hand, and of written profiles.
+//! Rows of versions, and of what a catalogue finds by its name; and reading, writing and applying without memory.
 //!
-//! `profiles` has rows of profiles and `scripts` of scripts, hostile ones too; `limits` has rows at
-//! the catalogue's limits, with what the catalogue reports of them. `rewriting` has each catalogue's
-//! written profile, `floors` one of releases with floors. `shown` says how a row is written. It holds tests alone.
+//! It holds tests alone, so that `catalogue` and `profile_toml` are proved once. What profiles and scripts are read as, what
+//! they are rejected for and how a catalogue is written is in rows of the program.
 
 #![tactic(auto)]
 
 #[cfg(test)]
-mod examples;
-#[cfg(test)]
-mod floors;
+mod finders;
 #[cfg(test)]
 mod limits;
 #[cfg(test)]
 mod out_of_memory_tests;
 #[cfg(test)]
-mod profiles;
-#[cfg(test)]
-mod rewriting;
-#[cfg(test)]
-mod scripts;
-#[cfg(test)]
-mod shown;
-#[cfg(test)]
-mod small;
+mod version_tests;

@@ -1,66 +1,86 @@
-use crate::shown::{Form, check_rows};
-use std::test::Fail;
+// An app with as many differentials as there may be.
 
-// A profile has no limits of its own; the catalogue's are reported with the index of the edit that
-// a table makes, not of the table. The default cohort is no edit of its own.
-const LIMITS: &str = r#"> schema = 1~mirror = [{ name = "m", codebase = "http://m/", budget = 0 }]~
-64 apps, 0 releases, 1 cohorts | %64*[[app]]~id = 'a#'~default = 's'~%
-edit 64: C17 Limit | %65*[[app]]~id = 'a#'~default = 's'~%
-> schema = 1~mirror = [{ name = "m", codebase = "http://m/", budget = 0 }]~[[app]]~id = 'a'~default = 's'~
-1 apps, 0 releases, 1 cohorts | 
-1 apps, 512 releases, 1 cohorts | %512*[[app.release]]~version='#'~name='r#'~size=1~sha256='000000000000000000000000000000000000000000000000000000000000#'~%
-edit 513: C17 Limit | %513*[[app.release]]~version='#'~name='r#'~size=1~sha256='000000000000000000000000000000000000000000000000000000000000#'~%
-1 apps, 0 releases, 32 cohorts | cohort = [{name='s',share=0},%31*{name='c#'},%]
-edit 32: C17 Limit | cohort = [{name='s',share=0},%32*{name='c#'},%]
-edit 1: C11 UnknownRelease | [[app.cohort]]~name = 's'~target = '1'
-edit 2: C16 BadShare | [[app.cohort]]~name = 'x'~share = 1001
-edit 1: C9 BadName | [[app.cohort]]~name = 'X'
-edit 1: C4 BadVersion | [[app.release]]~version = '01'~name = ''~size = 0~sha256 = ''
-edit 1: C2 AppExists | [[app]]~id = 'A'~default = 's'"#;
+use crate::out_of_memory_tests::catalogue_of;
+use catalogue::{Catalogue, Fault};
+use profile_toml::read_script;
+use std::alloc::{AllocError, Global};
+use values::ReadError;
 
-#[test]
-fn leaves_the_catalogues_limits_to_it(rt: HostRuntime) -> Result<(), Fail> {
-    check_rows(&rt, rt.alloc(), Form::Applied, LIMITS)?;
+const HEAD: &str = r#"schema = 1
+mirror = [{ name = "m0", codebase = "http://m0.example/p/", budget = 1000 }]
+
+[[app]]
+id = "app"
+default = "stable"
+release = [
+"#;
+
+// 256 releases, `1.0` to `1.255`.
+fn push_releases(profile: &mut String) -> Result<(), AllocError> {
+    for number in 0..256u32 {
+        writeln!(
+            profile,
+            r#"    {{ version = "1.{number}", name = "r-{number}.bin", size = 1, sha256 = "{number:064}" }},"#
+        )?;
+    }
     Ok(())
 }
 
-// An app's identifier and a package's name with each byte that they may have, and with one more byte, which for some
-// rows is next to those. The bytes `%`, `*` and `~` are written by their numbers.
-const BYTES: &str =
-    r#"> schema = 1~mirror = [{ name = "m", codebase = "http://m/", budget = 0 }]~[[app]]~default = 's'~
-1 apps, 0 releases, 1 cohorts | id = '!'
-1 apps, 0 releases, 1 cohorts | id = "\u007e"
-1 apps, 0 releases, 1 cohorts | id = "!#\"$\u0025&'()\u002a+,-./0123456789:;<=>?@ABCDEFGHIJKLMNOPQRSTUVWXYZ[\\]^_`abcdefghijklmnopqrstuvwxyz{|}\u007e"
-edit 0: C3 BadAppId | id = ' '
-edit 0: C3 BadAppId | id = 'a b'
-edit 0: C3 BadAppId | id = "\u0000"
-edit 0: C3 BadAppId | id = "\u001f"
-edit 0: C3 BadAppId | id = "\u007f"
-edit 0: C3 BadAppId | id = "\u0080"
-edit 0: C3 BadAppId | id = 'é'
-> schema = 1~mirror = [{ name = "m", codebase = "http://m/", budget = 0 }]~[[app]]~id = 'a'~default = 's'~[[app.release]]~version = '1'~size = 1~sha256 = '%64*1%'~
-1 apps, 1 releases, 1 cohorts | name = '-_.0123456789ABCDEFGHIJKLMNOPQRSTUVWXYZabcdefghijklmnopqrstuvwxyz'
-edit 1: C9 BadName | name = '.a'
-edit 1: C9 BadName | name = 'a b'
-edit 1: C9 BadName | name = 'a+b'
-edit 1: C9 BadName | name = 'a,b'
-edit 1: C9 BadName | name = 'a/b'
-edit 1: C9 BadName | name = 'a:b'
-edit 1: C9 BadName | name = 'a@b'
-edit 1: C9 BadName | name = 'a[b'
-edit 1: C9 BadName | name = 'a\b'
-edit 1: C9 BadName | name = 'a^b'
-edit 1: C9 BadName | name = 'a`b'
-edit 1: C9 BadName | name = 'a{b'
-edit 1: C9 BadName | name = "a\u007eb"
-edit 1: C9 BadName | name = "a\u0000b"
-edit 1: C9 BadName | name = "a\u007fb"
-edit 1: C9 BadName | name = 'aéb'"#;
-
-// rule: App identifier
-// rule: Package name
-#[test]
-fn bounds_the_bytes_of_names(rt: HostRuntime) -> Result<(), Fail> {
-    check_rows(&rt, rt.alloc(), Form::Applied, BYTES)?;
+// The differentials of a release to those above it, at most so many.
+fn push_diffs(profile: &mut String, from: u32, count: u32) -> Result<(), AllocError> {
+    for to in (from.saturating_add(1)..256).take(count as usize) {
+        writeln!(
+            profile,
+            r#"    {{ from = "1.{from}", to = "1.{to}", name = "d-{from}-{to}.bin", size = 1, sha256 = "{to:064}" }},"#
+        )?;
+    }
     Ok(())
+}
+
+// The profile of an app of 256 releases and 16384 differentials.
+fn push_profile(profile: &mut String) -> Result<(), AllocError> {
+    profile.push_str(HEAD)?;
+    push_releases(profile)?;
+    profile.push_str("]\ndiff = [\n")?;
+    let mut left = 16384u32;
+    for from in 0..255u32 {
+        push_diffs(profile, from, left)?;
+        left = left.saturating_sub(255u32.saturating_sub(from));
+    }
+    profile.push_str("]\n")
+}
+
+fn full(alloc: Global) -> Option<Catalogue> {
+    let mut profile = String::new(alloc);
+    push_profile(&mut profile).ok()?;
+    catalogue_of(alloc, profile.as_str())
+}
+
+const TAKEN_NAME: &str = r#"schema = 1
+base = 1
+edit = [{ do = "add_diff", app = "app", from = "1.254", to = "1.255", name = "r-0.bin", size = 1, sha256 = "5555555555555555555555555555555555555555555555555555555555555555" }]
+"#;
+
+const FREE_NAME: &str = r#"schema = 1
+base = 1
+edit = [{ do = "add_diff", app = "app", from = "1.254", to = "1.255", name = "free.bin", size = 1, sha256 = "5555555555555555555555555555555555555555555555555555555555555555" }]
+"#;
+
+// Whether a script is rejected so.
+fn rejects(alloc: Global, catalogue: &mut Catalogue, script: &str, wanted: Fault) -> Option<bool> {
+    let (_base, batch) = read_script(alloc, script.as_bytes()).ok()?;
+    match catalogue.apply(&batch) {
+        Err(ReadError::Fault(refused)) => Some(refused.index == 0 && refused.fault == wanted),
+        _ => Some(false),
+    }
+}
+
+// rule: Faults of an edit, in order
+#[test]
+fn rejects_a_16385th_differential(rt: HostRuntime) {
+    let mut catalogue = full(rt.alloc()).expect(&rt, "a catalogue");
+    let is_taken = rejects(rt.alloc(), &mut catalogue, TAKEN_NAME, Fault::NameTaken);
+    assert!(rt; is_taken == Some(true));
+    let is_full = rejects(rt.alloc(), &mut catalogue, FREE_NAME, Fault::Limit);
+    assert!(rt; is_full == Some(true));
 }

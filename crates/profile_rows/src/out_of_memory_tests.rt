@@ -2,9 +2,10 @@
 //
 // In the gate no allocation fails. `make allocations` lets each one of a test fail in turn, so of two tries one fails at most.
 
-use crate::rewriting::written;
-use catalogue::{Batch, Catalogue, Refused};
-use profile_toml::{read_profile, read_script};
+ghost use Rattle.profile_toml.specs.Laws.{AreMirrors};
+
+use catalogue::{Batch, Catalogue, Mirror, Refused};
+use profile_toml::{read_profile, read_script, write_profile};
 use std::alloc::Global;
 use values::ReadError;
 
@@ -89,13 +90,21 @@ fn read_script_without_memory(rt: HostRuntime) {
     assert!(rt; are_right(reads_script(rt.alloc()), reads_script(rt.alloc())));
 }
 
+// Writes the catalogue of a batch.
+fn written(alloc: Global, batch: &Batch, mirrors: &[Mirror]) -> Option<Vec<u8>>
+    requires { AreMirrors mirrors.now }
+{
+    let catalogue = applied(alloc, batch)?;
+    write_profile(alloc, &catalogue, mirrors).ok()
+}
+
 // Whether a profile is written as it is.
 fn writes_profile(alloc: Global) -> Option<bool> {
     profile_toml::laws::mirrors();
     let Ok((batch, mirrors)) = read_profile(alloc, WRITTEN.as_bytes()) else {
         return None;
     };
-    let bytes = written(alloc, &batch, mirrors.as_slice()).ok()?;
+    let bytes = written(alloc, &batch, mirrors.as_slice())?;
     Some(bytes.as_slice() == WRITTEN.as_bytes())
 }
 
@@ -105,11 +114,21 @@ fn write_profile_without_memory(rt: HostRuntime) {
     assert!(rt; are_right(writes_profile(rt.alloc()), writes_profile(rt.alloc())));
 }
 
-fn batch_of(alloc: Global) -> Option<Batch> {
-    match read_profile(alloc, WRITTEN.as_bytes()) {
+fn batch_of(alloc: Global, profile: &str) -> Option<Batch> {
+    match read_profile(alloc, profile.as_bytes()) {
         Ok((batch, _mirrors)) => Some(batch),
         Err(_) => None,
     }
+}
+
+fn applied(alloc: Global, batch: &Batch) -> Option<Catalogue> {
+    Catalogue::empty(alloc).applied(batch).ok()
+}
+
+/// The catalogue of a profile, `None` if that is rejected.
+pub(crate) fn catalogue_of(alloc: Global, profile: &str) -> Option<Catalogue> {
+    let batch = batch_of(alloc, profile)?;
+    applied(alloc, &batch)
 }
 
 // Whether a catalogue has the app with its releases and its differential.
@@ -129,7 +148,7 @@ fn apply_again(catalogue: &mut Catalogue, batch: &Batch) -> Result<(), ReadError
 }
 
 fn applies(alloc: Global) -> Option<bool> {
-    let batch = batch_of(alloc)?;
+    let batch = batch_of(alloc, WRITTEN)?;
     let mut catalogue = Catalogue::empty(alloc);
     let applied = apply_again(&mut catalogue, &batch);
     Some(applied.is_ok() && is_made(&catalogue))
@@ -141,14 +160,9 @@ fn apply_without_memory(rt: HostRuntime) {
     assert!(rt; are_right(applies(rt.alloc()), applies(rt.alloc())));
 }
 
-fn catalogue_of(alloc: Global) -> Option<Catalogue> {
-    let batch = batch_of(alloc)?;
-    Catalogue::empty(alloc).applied(&batch).ok()
-}
-
 // Whether a catalogue's copy is like it, and the catalogue as it was.
 fn copies_catalogue(alloc: Global) -> Option<bool> {
-    let catalogue = catalogue_of(alloc)?;
+    let catalogue = catalogue_of(alloc, WRITTEN)?;
     let copy = catalogue.copy();
     if !is_made(&catalogue) {
         return Some(false);
@@ -163,9 +177,8 @@ fn catalogue_copy_without_memory(rt: HostRuntime) {
 
 // Whether the copy of a batch makes the catalogue that the batch makes.
 fn copies_batch(alloc: Global) -> Option<bool> {
-    let copy = batch_of(alloc)?.copy().ok()?;
-    let catalogue = Catalogue::empty(alloc).applied(&copy).ok()?;
-    Some(is_made(&catalogue))
+    let copy = batch_of(alloc, WRITTEN)?.copy().ok()?;
+    Some(is_made(&applied(alloc, &copy)?))
 }
 
 #[test]
