@@ -1,5 +1,5 @@
 //! Worked rows of what a server's workers do: messages and sessions with their replies, what a worker's desk replies,
-//! and the gate of a server's workers; and what the connections of `tests/corpus/` get.
+//! and a server with each byte of its connections, over ports in memory; and what the connections of `tests/corpus/` get.
 //!
 //! It has tests alone, so that `service_desks` and `omaha_server` are proved once.
 
@@ -7,8 +7,6 @@
 
 #[cfg(test)]
 mod answers;
-#[cfg(test)]
-mod at_once;
 #[cfg(test)]
 mod corpus_tests;
 #[cfg(test)]
@@ -22,6 +20,12 @@ mod out_of_memory_tests;
 #[cfg(test)]
 mod pinned_tests;
 #[cfg(test)]
+mod rooms;
+#[cfg(test)]
+mod served_tests;
+#[cfg(test)]
 mod together;
+#[cfg(test)]
+mod turns;
 #[cfg(test)]
 mod worker_tests;

@@ -28,4 +28,6 @@ mod session_tests;
 #[cfg(test)]
 mod tests;
 #[cfg(test)]
+mod whole_tests;
+#[cfg(test)]
 mod writers;

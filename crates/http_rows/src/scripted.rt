@@ -5,8 +5,8 @@ ghost use Rattle.std.specs.Prelude.{◌≤◌, IfOk};
 use std::io;
 use std::io::{Error, ErrorKind, Read, Write};
 
-/// Each call does what the next letter says: a digit is how many bytes it reads or writes, `i` an
-/// interruption, and any other letter a failure. After the script each call reads or writes nothing.
+/// Each call does what the next letter says: a digit is how many bytes it reads or writes, `i` an interruption, `m` a
+/// failure since memory ran out, and any other letter another failure. After the script each call reads or writes nothing.
 #[derive(Drop)]
 pub(crate) struct Scripted<'a> {
     pub(crate) left: &'a [u8],
@@ -24,6 +24,7 @@ impl Scripted<'_> {
         match letter {
             b'0'..=b'9' => Ok(((letter - b'0') as usize).min(room)),
             b'i' => Err(Error::from(ErrorKind::Interrupted)),
+            b'm' => Err(Error::from(ErrorKind::OutOfMemory)),
             _ => Err(Error::from(ErrorKind::ConnectionReset)),
         }
     }

@@ -1,21 +1,15 @@
-//! Worked rows of tables of prices: made and checked by several threads, and kept by editions; and of plans of clients
-//! with pins; reviews of small catalogues, and the pages of an operator.
+//! Worked rows of tables of prices: made and checked by several threads, and kept by editions and reviews; and of plans of
+//! clients with pins.
 //!
-//! It has tests alone, so that `par_tables`, `omaha_commands`, `reviews`, `tallies`, `operator_pages`, `editions`
-//! and `replies` are proved once. Catalogues are made of scripts.
+//! It has tests alone, so that `par_tables`, `omaha_commands`, `reviews`, `editions` and `replies` are proved once.
+//! Catalogues are made of scripts.
 
 #![tactic(auto)]
 
 #[cfg(test)]
-mod changed;
-#[cfg(test)]
-mod counted;
-#[cfg(test)]
 mod kept;
 #[cfg(test)]
 mod out_of_memory_tests;
-#[cfg(test)]
-mod pages;
 #[cfg(test)]
 mod parallel;
 #[cfg(test)]

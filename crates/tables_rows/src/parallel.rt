@@ -3,17 +3,13 @@
 ghost use Rattle.std.specs.Prelude.{◌≡◌, ◌<◌, IfSome, length};
 
 use catalogue::Catalogue;
-use fixtures::{
-    DEMO, catalogue_of_script, find_wrong, graph_of, keep, key_of, key_of_seed, largest,
-    push_wrong, script_of,
-};
+use fixtures::{catalogue_of_script, find_wrong, graph_of, keep, key_of, key_of_seed, script_of};
 use omaha_commands::check_parallel;
 use payload_graph::{Graph, Kind};
 use price_cert::{Certified, Prices, Row, Rule, Wrong, check_pair, check_row};
 use solver::solve;
-use std::alloc::{AllocError, Global};
+use std::alloc::Global;
 use std::mem::forget;
-use std::test::Fail;
 use std::thread::Threads;
 
 // The first wrong row of a table, by several threads.
@@ -132,127 +128,44 @@ fn with_row(table: &Certified, index: usize, row: Row) -> Option<Prices>
     }
 }
 
-// What a graph's table with another row is found to be: by one thread, by several, and in parts, if they agree.
-fn found_with<R: Threads + Sync>(
+// Whether one thread, several, and a check in parts find the same of a graph's table with another row.
+fn agree<R: Threads + Sync>(
     rt: &R,
     alloc: Global,
     graph: &Graph,
     index: usize,
     word: &str,
-) -> Option<Option<Wrong>> {
+) -> Option<bool> {
     let _within = graph.target();
     let _numbered = graph.doors();
     let _nearing = graph.differs();
     let table = keep(alloc, solve(alloc, graph).ok()?)?;
     let old = *table.rows().get(index)?;
     let row = row_of_word(old, word);
-    let wrong = find_wrong(graph, with_row(table, index, row)?);
     let parts = keep(alloc, with_row(table, index, row)?)?;
-    let others = [
-        find_in_parallel(rt, graph, with_row(table, index, row)?),
-        find_in_parts(graph, parts),
-    ];
-    if others[0] == wrong && others[1] == wrong {
-        Some(wrong)
-    } else {
-        None
+    let found = find_in_parts(graph, parts);
+    let several = find_in_parallel(rt, graph, with_row(table, index, row)?);
+    let one = find_wrong(graph, with_row(table, index, row)?);
+    Some(found == several && found == one)
+}
+
+// Whether they do over a seed's table, with a row of it changed.
+fn agree_over<R: Threads + Sync>(rt: &R, alloc: Global, seed: u64) -> Option<bool> {
+    let index = (seed % 6) as usize;
+    let word = ["3", "none", "7", "end", "5"][(seed % 5) as usize];
+    let catalogue = catalogue_of_script(alloc, script_of(alloc, seed)?, "")?;
+    match graph_of(alloc, catalogue, &key_of(key_of_seed(seed))) {
+        Some(graph) => agree(rt, alloc, graph, index, word),
+        None => Some(true),
     }
 }
-
-fn word_of_wrong(alloc: Global, wrong: Option<Wrong>) -> Result<String, AllocError> {
-    let mut words = String::new(alloc);
-    match wrong {
-        Some(wrong) => push_wrong(&mut words, wrong)?,
-        None => words.push_str("certified")?,
-    }
-    Ok(words)
-}
-
-// Whether a row is as it says: the index of a row of the table, what is put in its place, and what is found.
-fn is_found<R: Threads + Sync>(rt: &R, alloc: Global, script: &str, row: &str) -> Option<bool> {
-    let (change, wanted) = row.split_once('|')?;
-    let (index, word) = change.split_once(' ')?;
-    let catalogue = catalogue_of_script(alloc, script, "")?;
-    let graph = graph_of(alloc, catalogue, &key_of("stable target no"))?;
-    let wrong = found_with(rt, alloc, graph, index.parse().ok()?, word)?;
-    let words = word_of_wrong(alloc, wrong).ok()?;
-    Some(words.as_str() == wanted)
-}
-
-// The first of rows that isn't as it says; empty if there is none.
-fn first_other<'a, R: Threads + Sync>(
-    rt: &R,
-    alloc: Global,
-    script: &str,
-    rows: &'a str,
-) -> &'a str {
-    for row in rows.lines() {
-        if is_found(rt, alloc, script, row) != Some(true) {
-            return row;
-        }
-    }
-    ""
-}
-
-const ROWS: &str = "1 450|certified
-3 end|certified
-1 449|wrong 1 C3
-1 451|wrong 1 C2
-1 none|wrong 1 C2
-0 749|wrong 0 C3
-0 751|wrong 0 C2
-2 251|wrong 2 C2
-2 end|wrong 2 C1
-3 none|wrong 3 C1
-3 0|wrong 3 C1";
 
 // rule: Bounded pair
 // rule: Broken rule of a row alone
 // rule: First wrong row
 #[test]
-fn several_threads_find_the_same_row(rt: HostRuntime) {
-    let other = first_other(&rt, rt.alloc(), DEMO, ROWS);
-    assert!(rt; other.is_empty(), "{other}");
-}
-
-const LARGEST: &str = "0 561850441793536|certified
-0 561850441793537|wrong 0 C2
-100 none|wrong 100 C2
-400 0|wrong 400 C3
-510 1099511627775|wrong 510 C3
-511 none|wrong 511 C1";
-
-#[test]
-fn several_threads_check_512_releases(rt: HostRuntime) -> Result<(), Fail> {
-    let script = largest(rt.alloc(), 1099511627776, true).ok_or("no script")?;
-    let other = first_other(&rt, rt.alloc(), script, LARGEST);
-    assert!(rt; other.is_empty(), "{other}");
-    Ok(())
-}
-
-// Whether the three ways agree over a seed's table, with a row of it changed.
-fn agrees<R: Threads + Sync>(
-    rt: &R,
-    alloc: Global,
-    seed: u64,
-    index: usize,
-    word: &str,
-) -> Option<bool> {
-    let catalogue = catalogue_of_script(alloc, script_of(alloc, seed)?, "")?;
-    match graph_of(alloc, catalogue, &key_of(key_of_seed(seed))) {
-        Some(graph) => Some(found_with(rt, alloc, graph, index, word).is_some()),
-        None => Some(true),
-    }
-}
-
-#[test]
 fn several_threads_agree_with_one(rt: HostRuntime) {
     for seed in 0..300u64 {
-        let index = (seed % 6) as usize;
-        let word = ["3", "none", "7", "end", "5"][(seed % 5) as usize];
-        assert!(rt;
-            agrees(&rt, rt.alloc(), seed, index, word) == Some(true),
-            "{seed}"
-        );
+        assert!(rt; agree_over(&rt, rt.alloc(), seed) == Some(true), "{seed}");
     }
 }

@@ -1,18 +1,18 @@
-// Every byte of a server's connections, over ports in memory.
+// Every byte of a server's connections, over ports in memory. Its two workers wait for each other and for the test.
 
 use crate::rooms::Rooms;
+use crate::together::Meeting;
 use http_memory::{Peer, Script};
 use kept_records::Unkept;
 use omaha_server::{Place, ServedPort, ServedPorts, serve};
-use service_desks::{KeptService, builtin_service};
+use service_desks::{KeptService, Service, builtin_service};
 use std::alloc::{AllocError, Global};
 use std::io;
 use std::sync::Wait;
 use std::sync::atomic::AtomicU64;
-use std::thread::Threads;
+use std::thread::{Threads, join};
 use std::time::Clock;
 use values::Text;
-use worker_threads::Free;
 
 /// What the one client of the first worker sends: two update checks.
 pub(crate) const ASKS: &str = "\
@@ -52,14 +52,19 @@ const MISSING: &str = "\
 |\
 HTTP/1.1 404 Not Found\r\nContent-Length: 0\r\n\r\n";
 
+fn pair_of(alloc: Global, first: &str, second: &str) -> Result<(Text, Text), AllocError> {
+    let first = Text::copy_of(alloc, first)?;
+    let second = Text::copy_of(alloc, second)?;
+    Ok((first, second))
+}
+
 // Two workers, which serve one connection and two, and an operator with one.
 fn place_of(alloc: Global) -> Result<Place, AllocError> {
-    let address = Text::copy_of(alloc, "clients")?;
-    let operator = Some(Text::copy_of(alloc, "operator")?);
-    let packages = Text::copy_of(alloc, ".")?;
+    let (address, operator) = pair_of(alloc, "clients", "operator")?;
+    let (packages, version) = pair_of(alloc, ".", "0.2.0")?;
     Ok(Place {
         address,
-        operator,
+        operator: Some(operator),
         packages,
         workers: 2,
         sessions: Some(3),
@@ -71,7 +76,7 @@ fn place_of(alloc: Global) -> Result<Place, AllocError> {
         pinned_tables: 0,
         packages_must_exist: false,
         named: None,
-        version: Text::copy_of(alloc, "0.2.0")?,
+        version,
     })
 }
 
@@ -96,19 +101,46 @@ fn are_served(ports: &ServedPorts<Script>) -> Option<bool> {
     Some(first && second && operator && ports.clients.len() == 2)
 }
 
-fn is_served<R: Clock + Threads + Wait + Sync + AllocGlobal>(rt: &R) -> Option<bool> {
+// Whether a server whose gate is a meeting sends them that, and ends with the total of its one mirror.
+fn is_served<R: Clock + Threads + Wait + Sync + AllocGlobal>(
+    rt: &R,
+    service: Service,
+    place: &Place,
+    meeting: &Meeting<'_, R>,
+) -> bool {
     let rooms = Rooms {
         rt,
         stage: AtomicU64::new(0),
     };
-    let place = place_of(rt.alloc()).ok()?;
     let kept = KeptService {
-        service: builtin_service(rt.alloc()).ok()?,
+        service,
         records: Unkept::new(),
     };
     let mut out = Vec::new(rt.alloc());
-    let ports = serve(rt, &rooms, kept, &place, &Free, &mut out, &mut io::sink()).ok()?;
-    Some(are_served(&ports)? && out.as_slice() == b"ready\nm0 56\n".as_slice())
+    let served = serve(rt, &rooms, kept, place, meeting, &mut out, &mut io::sink());
+    let is_told = out.as_slice() == b"ready\nm0 56\n".as_slice();
+    match served {
+        Ok(ports) => is_told && are_served(&ports) == Some(true),
+        Err(_) => false,
+    }
+}
+
+fn serves<R: Clock + Threads + Wait + Sync + AllocGlobal>(
+    rt: &R,
+    meeting: &Meeting<'_, R>,
+) -> Option<bool> {
+    let service = builtin_service(rt.alloc()).ok()?;
+    match place_of(rt.alloc()) {
+        Ok(place) => Some(is_served(rt, service, &place, meeting)),
+        Err(_) => None,
+    }
+}
+
+// Whether it is so while the test meets the workers.
+fn meets<R: Clock + Threads + Wait + Sync + AllocGlobal>(rt: &R) -> bool {
+    let meeting = &Meeting::new(rt);
+    let (is_served, ()) = join(rt, || serves(rt, meeting), || meeting.meet_jobs());
+    is_served == Some(true) && meeting.is_complete()
 }
 
 // rule: Clock of a port
@@ -116,6 +148,6 @@ fn is_served<R: Clock + Threads + Wait + Sync + AllocGlobal>(rt: &R) -> Option<b
 // rule: Sessions of a server
 // rule: Sessions of an operator
 #[test]
-fn each_peer_gets_its_replies_byte_for_byte(rt: HostRuntime) {
-    assert!(rt; is_served(&rt) == Some(true));
+fn workers_begin_at_once_and_each_peer_gets_its_replies_byte_for_byte(rt: HostRuntime) {
+    assert!(rt; meets(&rt));
 }

@@ -1,7 +1,7 @@
 -- There is a port for each of the terms so far.
 use Rattle.std.proofs.Common.{◌≡◌, All, map, take}
-use Rattle.omaha_cli_rows.specs.NewScripts.{IsNewScript}
-use Rattle.omaha_cli_rows.proofs.rooms.open_all.Given as goal
+use Rattle.desk_rows.specs.NewScripts.{IsNewScript}
+use Rattle.desk_rows.proofs.rooms.open_all.Given as goal
 
 abbrev pub invariant-loop-each : goal.invariant-loop-each
 invariant-loop-each l =

@@ -1,7 +1,7 @@
 // A server's system in memory.
 
 ghost use Rattle.std.specs.Prelude.{◌≡◌, All, IfOk, IfSome, map};
-ghost use Rattle.omaha_cli_rows.specs.NewScripts.{IsNewScript};
+ghost use Rattle.desk_rows.specs.NewScripts.{IsNewScript};
 
 use crate::turns::{Part, Turns};
 use http_desks::{Desk, Packages};

@@ -2,8 +2,8 @@ use Rattle.std.proofs.Common.{◌≡◌, ◌<◌, ◌∙◌, ◌++◌, [], ◌�
 use Rattle.std.proofs.lemmas.List.{map-append, take_more}
 use Rattle.std.proofs.lemmas.List.Elements.{All-push}
 use Rattle.http_ports.specs.declared.terms.Terms.{Terms}
-use Rattle.omaha_cli_rows.specs.NewScripts.{IsNewScript}
-use Rattle.omaha_cli_rows.proofs.rooms.open_all.Goals as goal
+use Rattle.desk_rows.specs.NewScripts.{IsNewScript}
+use Rattle.desk_rows.proofs.rooms.open_all.Goals as goal
 
 pub loop-each-preserved : goal.loop-each-preserved
 loop-each-preserved c =
