@@ -1,4 +1,4 @@
-// What is asked of a track, in rows: its key, a bar, edits after those of a script, a bar, what is asked, a bar, more of
+// What is asked of a track, in rows: its key, a bar, edits after those of `DEMO`, a bar, what is asked, a bar, more of
 // what is asked, a bar, and the reply.
 
 ghost use Rattle.std.specs.Prelude.{◌≡◌, ◌<◌, IfSome, Some, length};
@@ -10,7 +10,7 @@ use crate::outcomes::{push_key, push_outcome, push_written};
 use catalogue::{Catalogue, Version};
 use cohorts::Pin;
 use fixtures::{
-    catalogue_of_script, fields, graph_of, keep, key_of, push_from, push_into, push_ruled,
+    DEMO, catalogue_of_script, fields, graph_of, keep, key_of, push_from, push_into, push_ruled,
     push_table,
 };
 use par_tables::{TrackTables, tables};
@@ -133,24 +133,12 @@ fn push_resolved(
     }
 }
 
-// Puts the table of a key at the end, or all tables.
-fn push_tables(
-    words: &mut String,
-    tables: &TrackTables,
-    key: &TrackKey,
-    asked: &str,
-) -> Result<(), AllocError> {
-    if asked == "its table" {
-        return match tables.find(key) {
-            Some(table) => push_table(words, table),
-            None => words.push_str(" no table"),
-        };
+// Puts the table of a key at the end, as the list of all tables has it.
+fn push_listed(words: &mut String, tables: &TrackTables, key: &TrackKey) -> Result<(), AllocError> {
+    match tables.find(key) {
+        Some(table) => push_table(words, table),
+        None => words.push_str(" no table"),
     }
-    for table in tables.as_slice() {
-        words.push_str(";")?;
-        push_table(words, table)?;
-    }
-    Ok(())
 }
 
 // Puts what is asked of a track at the end.
@@ -163,9 +151,9 @@ fn push_asked(
     more: &str,
 ) -> Option<()> {
     match asked {
-        "its table" | "tables" => {
+        "its table" => {
             let tables = keep(alloc, tables(alloc, catalogue).ok()?)?;
-            push_tables(words, tables, key, asked).ok()
+            push_listed(words, tables, key).ok()
         }
         "by the rule" | "slowly" => push_ruled(alloc, words, catalogue, key, asked),
         "both" if key.app < catalogue.apps().len() => push_resolved(alloc, words, catalogue, key),
@@ -187,26 +175,18 @@ pub(crate) fn words_of(
     keep(alloc, words)
 }
 
-// Whether words are the wanted ones, of which `..` leaves some out.
-fn are(words: &str, wanted: &str) -> bool {
-    match wanted.split_once("..") {
-        Some((start, end)) => words.starts_with(start) && words.ends_with(end),
-        None => words == wanted,
-    }
-}
-
-/// Whether the reply to a row is the wanted one.
-pub(crate) fn replies(alloc: Global, script: &str, row: &str) -> Option<bool> {
+// Whether the reply to a row is the wanted one.
+fn replies(alloc: Global, row: &str) -> Option<bool> {
     let [key, edits, asked, more, wanted] = fields(row);
-    let catalogue = catalogue_of_script(alloc, script, edits)?;
+    let catalogue = catalogue_of_script(alloc, DEMO, edits)?;
     let words = words_of(alloc, catalogue, key, asked, more)?;
-    Some(are(words.as_str(), wanted))
+    Some(words.as_str() == wanted)
 }
 
 /// The first of rows whose reply is not the wanted one; empty if there is none.
-pub(crate) fn wrong_row<'a>(alloc: Global, script: &str, rows: &'a str) -> &'a str {
+pub(crate) fn wrong_row<'a>(alloc: Global, rows: &'a str) -> &'a str {
     for row in rows.lines() {
-        if replies(alloc, script, row) != Some(true) {
+        if replies(alloc, row) != Some(true) {
             return row;
         }
     }

@@ -1,31 +1,15 @@
 // Descriptions of files.
 
 use crate::shelf::RowFolder;
-use http_desks::Packages;
-use http_devices::OpenPackages;
 use package_files::describe;
-use std::alloc::{AllocError, Global};
+use std::alloc::Global;
 
-// What is described of a file, or why it isn't.
-fn description_of<P: Packages + OpenPackages>(
-    alloc: Global,
-    packages: &P,
-    name: &str,
-) -> Result<String, AllocError> {
+// What is described of a file, with `~` for the ends of lines, or why it isn't.
+fn print_described(alloc: Global, packages: &RowFolder, name: &str) -> Option<String> {
     match describe(alloc, packages, name) {
-        Ok(lines) => Ok(lines),
-        Err(error) => format!(in alloc; "{error}"),
+        Ok(lines) => lines.as_str().replace(alloc, "\n", "~").ok(),
+        Err(error) => format!(in alloc; "{error}").ok(),
     }
-}
-
-/// What is described of a file, with `~` for the ends of lines, or why it isn't.
-pub(crate) fn print_described<P: Packages + OpenPackages>(
-    alloc: Global,
-    packages: &P,
-    name: &str,
-) -> Option<String> {
-    let lines = description_of(alloc, packages, name).ok()?;
-    lines.as_str().replace(alloc, "\n", "~").ok()
 }
 
 const FILES: &str =

@@ -45,22 +45,10 @@ fn finds_the_files_that_differ(rt: HostRuntime) {
     }
 }
 
-// A row is a name, and what is described of its file, `~` being the end of a line.
+// A row is a name, and what is described of its file, `~` being the end of a line, or why it isn't.
 const DESCRIPTIONS: &str = "\
 a-1.bin = name = \"a-1.bin\"~size = 10~sha256 = \"bf2cb58a68f684d95a3b78ef8f661c9a4e5b09e82cc8f9cc88cce90528caeb27\"~
-a-3.bin = name = \"a-3.bin\"~size = 65537~sha256 = \"008ffc88d3c96a9f307524eb361e47c5222a887fc45fa0c1fb8d429c5c23b430\"~";
-
-// rule: Description of a file
-// rule: Hash of a file
-#[test]
-fn describes_a_file_as_a_profile_does(rt: HostRuntime) {
-    for row in DESCRIPTIONS.lines() {
-        assert!(rt; is_described(rt.alloc(), row), "{row}");
-    }
-}
-
-// A row is a name, and why its file isn't described.
-const FAILURES: &str = "\
+a-3.bin = name = \"a-3.bin\"~size = 65537~sha256 = \"008ffc88d3c96a9f307524eb361e47c5222a887fc45fa0c1fb8d429c5c23b430\"~
 a-2.bin = missing
 folder = not a regular file
 closed = unreadable
@@ -75,9 +63,11 @@ a,b = no package name
 inner/a-1.bin = no package name
  = no package name";
 
+// rule: Description of a file
+// rule: Hash of a file
 #[test]
-fn describes_no_other_file(rt: HostRuntime) {
-    for row in FAILURES.lines() {
+fn describes_a_file_as_a_profile_does(rt: HostRuntime) {
+    for row in DESCRIPTIONS.lines() {
         assert!(rt; is_described(rt.alloc(), row), "{row}");
     }
 }

@@ -1,9 +1,8 @@
 // A catalogue of two apps, whose packages are repeated letters `a`.
 
+use crate::shelf::RowFolder;
 use catalogue::Catalogue;
 use fixtures::catalogue_of_profile;
-use http_desks::Packages;
-use http_devices::OpenPackages;
 use package_files::{Finding, compare};
 use std::alloc::{AllocError, Global};
 
@@ -38,10 +37,10 @@ fn push_findings(line: &mut String, findings: &[Finding]) -> Result<(), AllocErr
     Ok(())
 }
 
-fn print_found<P: Packages + OpenPackages>(
+fn print_found(
     alloc: Global,
     catalogue: &Catalogue,
-    packages: &P,
+    packages: &RowFolder,
 ) -> Result<String, AllocError> {
     let findings = compare(alloc, catalogue.apps(), packages)?;
     let mut line = String::new(alloc);
@@ -50,10 +49,7 @@ fn print_found<P: Packages + OpenPackages>(
 }
 
 /// The findings of the catalogue's packages, a `;` after each; or `memory` if it ran out.
-pub(crate) fn print_findings<P: Packages + OpenPackages>(
-    alloc: Global,
-    packages: &P,
-) -> Option<String> {
+pub(crate) fn print_findings(alloc: Global, packages: &RowFolder) -> Option<String> {
     let catalogue = catalogue_of_profile(alloc, PROFILE)?;
     match print_found(alloc, catalogue, packages) {
         Ok(line) => Some(line),

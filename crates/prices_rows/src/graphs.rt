@@ -27,18 +27,6 @@ stable target no pin 4||from|| 1>3f1600 1>3d500 2>3f1600 2>3d250
 stable target no pin 3||from|| 1>2f1500 1>2d200
 beta target yes pin 2||from|| 0>1f1200 0>1d300 2>1f1200 3>1f1200"#;
 
-// rule: Audience
-// rule: Offered release
-// rule: Payloads from a release
-// rule: Rollback of a key
-// rule: Stone
-// rule: Window of a release
-#[test]
-fn lists_the_payloads_from_each_release(rt: HostRuntime) {
-    let wrong = wrong_row(rt.alloc(), DEMO, FROM);
-    assert!(rt; wrong.is_empty(), "{wrong}");
-}
-
 const INTO: &str = r#"stable target no pin 4||into|| 1>3f1600 2>3f1600 1>3d500 2>3d250
 stable target no||into|| 0>1f1200 0>1d300 1>2f1500 1>2d200 1>3f1600 2>3f1600 1>3d500 2>3d250
 beta target yes||into|| 3>0f1000 0>1f1200 3>1f1200 0>1d300 1>2f1500 3>2f1500 1>2d200
@@ -46,11 +34,19 @@ beta target yes|{ do = "set_target", app = "demo", cohort = "beta", target = "1.
 beta target no|{ do = "set_target", app = "demo", cohort = "beta", target = "1.0" }|into||
 stable target no|{ do = "set_withdrawn", app = "demo", version = "4.0", on = true }|into|| 0>1f1200 0>1d300 1>2f1500 1>2d200"#;
 
+// rule: Audience
+// rule: Offered release
+// rule: Payloads from a release
 // rule: Payloads into a release
+// rule: Rollback of a key
+// rule: Stone
+// rule: Window of a release
 #[test]
-fn lists_the_payloads_into_each_release(rt: HostRuntime) {
-    let wrong = wrong_row(rt.alloc(), DEMO, INTO);
-    assert!(rt; wrong.is_empty(), "{wrong}");
+fn lists_the_payloads_from_and_into_each_release(rt: HostRuntime) {
+    for rows in [FROM, INTO] {
+        let wrong = wrong_row(rt.alloc(), rows);
+        assert!(rt; wrong.is_empty(), "{wrong}");
+    }
 }
 
 const CHANGES: &str = r#"

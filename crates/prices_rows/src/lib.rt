@@ -1,5 +1,5 @@
-//! Worked rows of payloads: what is permitted on the tracks of small catalogues, their graphs, tables of
-//! prices, certificates, also with wrong lines, and the files of packages.
+//! Worked rows of payloads: what is permitted on the tracks of small catalogues, their graphs, first payloads and tables
+//! of prices, a certificate read to other tracks, and the files of packages.
 //!
 //! It has tests alone, so that the crates of payloads and prices and `package_files` are proved once. Catalogues are
 //! made of scripts, and payloads are words.
@@ -17,8 +17,6 @@ mod file_tests;
 #[cfg(test)]
 mod findings;
 #[cfg(test)]
-mod folder_tests;
-#[cfg(test)]
 mod graphs;
 #[cfg(test)]
 mod offers;
@@ -32,5 +30,3 @@ mod places;
 mod shelf;
 #[cfg(test)]
 mod tables;
-#[cfg(test)]
-mod wrong_lines;

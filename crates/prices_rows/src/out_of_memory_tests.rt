@@ -36,7 +36,7 @@ fn graph_of_track_solve_and_certified_copy_without_memory(rt: HostRuntime) {
 // Whether a certificate is what it should be to its track, for which ` no track` is a lack of memory.
 fn is_said(alloc: Global, asked: &str, wanted: &str) -> Option<bool> {
     let catalogue = catalogue_of_script(alloc, DEMO, "")?;
-    let words = words_of(alloc, catalogue, "stable target no", asked, "stable")?;
+    let words = words_of(alloc, catalogue, "stable target no", asked, "")?;
     match words.as_str() {
         " no track" => None,
         words => Some(words == wanted),

@@ -33,7 +33,7 @@ pub(crate) fn push_outcome(
     requires graph { net_among catalogue.now graph.now.key ≡ Some graph.now }
     requires pin { graph.now.key.pin ≡ pin.Any }
 {
-    let bytes = certificate_of(alloc, certificate)?;
+    let bytes = certificate_of(alloc, certificate)?.as_str().as_bytes();
     match read_prices(alloc, catalogue, graph, bytes) {
         Ok(prices) => match find_wrong(graph, prices) {
             Some(wrong) => push_wrong(words, wrong).ok(),
@@ -55,7 +55,7 @@ pub(crate) fn push_written(
     requires graph { net_among catalogue.now graph.now.key ≡ Some graph.now }
     requires pin { graph.now.key.pin ≡ pin.Any }
 {
-    let bytes = certificate_of(alloc, certificate)?;
+    let bytes = certificate_of(alloc, certificate)?.as_str().as_bytes();
     let prices = match read_prices(alloc, catalogue, graph, bytes) {
         Ok(prices) => keep(alloc, prices)?,
         Err(_) => return None,
@@ -84,7 +84,8 @@ pub(crate) fn push_key(
     catalogue: &Catalogue,
     certificate: &str,
 ) -> Option<()> {
-    match read_key(catalogue, certificate_of(alloc, certificate)?) {
+    let bytes = certificate_of(alloc, certificate)?.as_str().as_bytes();
+    match read_key(catalogue, bytes) {
         Ok(key) => push_read_key(words, &key).ok(),
         Err(fault) => push_fault(words, fault).ok(),
     }
