@@ -56,7 +56,8 @@ fn is_written(alloc: Global, room: usize) -> bool {
 // rule: Writing whole
 #[test]
 fn reports_each_place_where_a_write_fails(rt: HostRuntime) {
-    for room in 0..LINE.len() + 1 {
+    for room in 0..LINE.len() {
         assert!(rt; is_written(rt.alloc(), room), "{room} bytes");
     }
+    assert!(rt; is_written(rt.alloc(), LINE.len()));
 }
