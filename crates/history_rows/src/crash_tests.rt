@@ -47,6 +47,7 @@ fn call_all<R: Records>(records: &mut R, alloc: Global) -> Option<Outcome> {
 }
 
 // Makes the calls, and notes what they came to.
+#[derive(Drop)]
 struct Calls {
     outcome: Option<Outcome>,
 }
@@ -69,6 +70,7 @@ fn are_after(found: &[Record], outcome: Outcome) -> bool {
 }
 
 // Looks whether the records that are found are those after an outcome.
+#[derive(Drop)]
 struct Look {
     outcome: Outcome,
     is_after: bool,

@@ -13,6 +13,7 @@ c3:Y=ok c5:Z=ok | 5 | p:Z
 p:ABCDE=ok s:FGHIJK=full s:FGHIJ=ok r:K=full c2:ABCDEFGHIJK=full c2:ABCDEFGHIJ=ok | 2 | p:ABCDEFGHIJ";
 
 // Makes the calls of a row on a new history.
+#[derive(Drop)]
 struct Calls<'a> {
     row: &'a str,
     is_empty: bool,
@@ -27,6 +28,7 @@ impl Life for Calls<'_> {
 }
 
 // Looks for the records of a row, from its number on.
+#[derive(Drop)]
 struct Look<'a> {
     first: Option<u64>,
     words: &'a str,
