@@ -49,12 +49,14 @@ package other-1.8-2.0.bin = 4
 package Mini-1.0.bin = -
 package other = -";
 
-fn release_of_hash(catalogue: &Catalogue, app: usize, digit: &str) -> Option<usize> {
+fn release_of_hash(catalogue: &Catalogue, digit: &str) -> Option<usize> {
+    let app = catalogue.app("Other")?;
     let digit: u8 = digit.parse().ok()?;
     catalogue.find_hash(app, &[digit.wrapping_mul(17); 32])
 }
 
-fn differential_of(catalogue: &Catalogue, app: usize, pair: &str) -> Option<usize> {
+fn differential_of(catalogue: &Catalogue, pair: &str) -> Option<usize> {
+    let app = catalogue.app("Other")?;
     let (from, to) = pair.split_once(' ')?;
     catalogue.find_diff(app, &Version::lenient(from), &Version::lenient(to))
 }
@@ -67,8 +69,8 @@ fn find(catalogue: &Catalogue, kind: &str, name: &str) -> Option<u64> {
     let app = catalogue.app("Other")?;
     let index = match kind {
         "release" => catalogue.find_release(app, &Version::lenient(name)),
-        "hash" => release_of_hash(catalogue, app, name),
-        "differential" => differential_of(catalogue, app, name),
+        "hash" => release_of_hash(catalogue, name),
+        "differential" => differential_of(catalogue, name),
         _ => catalogue.find_cohort(app, name),
     };
     Some(index? as u64)
