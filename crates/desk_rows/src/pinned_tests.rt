@@ -16,17 +16,22 @@ fn check_with(alloc: Global, prefix: &str) -> Result<String, AllocError> {
     )
 }
 
-// Whether clients with the prefixes 3 and 4 get replies with these words, twice in turn.
-fn reply_with<D: Desk>(desk: &mut D, alloc: Global, three: &str, four: &str) -> Option<bool> {
-    let of_three = check_with(alloc, "3").ok()?;
-    let of_four = check_with(alloc, "4").ok()?;
-    let mut are_so = true;
-    for _turn in 0..2 {
-        are_so = are_so
-            && replies_with(desk, alloc, of_three.as_str(), three)
-            && replies_with(desk, alloc, of_four.as_str(), four);
+// Whether clients with a prefix get replies with these words.
+fn reply_with<D: Desk>(desk: &mut D, alloc: Global, prefix: &str, words: &str) -> bool {
+    match check_with(alloc, prefix) {
+        Ok(check) => replies_with(desk, alloc, check.as_str(), words),
+        Err(_) => false,
     }
-    Some(are_so)
+}
+
+// Whether clients with the prefixes 3 and 4 do, twice in turn.
+fn reply_in_turn<D: Desk>(desk: &mut D, alloc: Global, three: &str, four: &str) -> bool {
+    for _turn in 0..2 {
+        if !reply_with(desk, alloc, "3", three) || !reply_with(desk, alloc, "4", four) {
+            return false;
+        }
+    }
+    true
 }
 
 const OFFERS_3: &str = "\"sizediff\":200";
@@ -45,9 +50,9 @@ fn follows<R: Threads + Wait + AllocGlobal>(
     let alloc = rt.alloc();
     let till = PlainTill::new(mirrors_of(alloc, "1000000").ok()?, true);
     let mut worker = Worker::with_tables(rt, view, till, tables);
-    let is_before = reply_with(&mut worker, alloc, OFFERS_3, OFFERS_4)?;
+    let is_before = reply_in_turn(&mut worker, alloc, OFFERS_3, OFFERS_4);
     let is_published = publish_edits(rt, alloc, press, 1, "set_stone demo 3.0 on").is_ok();
-    let is_after = reply_with(&mut worker, alloc, OFFERS_3, NOUPDATE)?;
+    let is_after = reply_in_turn(&mut worker, alloc, OFFERS_3, NOUPDATE);
     Some(is_before && is_published && is_after)
 }
 

@@ -9,7 +9,6 @@ use service_desks::Worker;
 use std::alloc::Global;
 use std::sync::Wait;
 use std::thread::Threads;
-use tallies::{Cell, Kind, Outcome, Tally, Track};
 
 // A press, with its one view.
 fn open_one<R: Threads + Wait>(rt: &R, alloc: Global) -> Option<(Press, View)> {
@@ -117,59 +116,4 @@ fn is_closed_once_the_press_has_ended(rt: HostRuntime) {
         panic!(rt; "no press")
     };
     assert!(rt; is_closed(&rt, press, view));
-}
-
-// An update check of an app that isn't there, none of one that is, and one that is disabled.
-const OTHERS: &str =
-    r#"{"request":{"app":[{"appid":"none","updatecheck":{}},{"appid":"demo"},{"appid":"demo","cohort":"stable:0","updatecheck":{"updatedisabled":true}}],"protocol":"3.1"}}"#;
-
-// Whether both bodies get a reply.
-fn replies_to_both<D: Desk>(desk: &mut D) -> bool {
-    desk.answer(CHECK.as_bytes(), 1).is_ok() && desk.answer(OTHERS.as_bytes(), 1).is_ok()
-}
-
-// Replies to both bodies, and counts in a tally.
-fn count_in<R: Wait + AllocGlobal>(
-    rt: &R,
-    view: View,
-    grants: bool,
-    tally: &Tally,
-) -> Option<bool> {
-    let till = till_of(rt.alloc(), grants)?;
-    let mut worker = Worker::with_counter(rt, view, till, 0, tally);
-    Some(replies_to_both(&mut worker))
-}
-
-fn checks(tally: &Tally, outcome: Outcome) -> u64 {
-    tally.number(Cell::Checks(Track { app: 0, cohort: 0 }, outcome))
-}
-
-// What was counted: offers, their bytes, checks without an update or without room, and of unknown apps.
-fn counted(tally: &Tally) -> [u64; 5] {
-    [
-        checks(tally, Outcome::Offered),
-        tally.number(Cell::Bytes(0, Kind::Differential)),
-        checks(tally, Outcome::NoUpdate),
-        checks(tally, Outcome::Internal),
-        tally.number(Cell::Unknown),
-    ]
-}
-
-// What a worker counts that grants all, or nothing.
-fn count_both<R: Threads + Wait + AllocGlobal>(rt: &R, grants: bool) -> Option<[u64; 5]> {
-    let tally = Tally::new(rt.alloc(), 1, &[2]).ok()?;
-    let (press, view) = open_one(rt, rt.alloc())?;
-    let are_replied = count_in(rt, view, grants, &tally);
-    press.end(rt);
-    match are_replied {
-        Some(true) => Some(counted(&tally)),
-        _ => None,
-    }
-}
-
-// rule: Counted update check
-#[test]
-fn counts_what_it_replies(rt: HostRuntime) {
-    assert!(rt; count_both(&rt, true) == Some([1, 200, 1, 0, 1]));
-    assert!(rt; count_both(&rt, false) == Some([0, 0, 1, 1, 1]));
 }

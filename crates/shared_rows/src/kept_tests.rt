@@ -29,17 +29,21 @@ const LISTED: &str = "2 script 95 2 schema = 1
 4 script 19 3 schema = 2
 ";
 
-// Records that begin with a profile, and what happens to those after it.
-fn records_of(alloc: Global, profile: &[u8]) -> Option<MemoryRecords> {
+// Records that begin with a profile.
+fn begun(alloc: Global, profile: &[u8]) -> Option<MemoryRecords> {
     let mut records = MemoryRecords::new(alloc);
-    records.append(alloc, Kind::Profile, profile).ok()?;
-    records.turns.push(Turn::Stores).ok()?;
-    records.turns.push(Turn::DropsInDoubt).ok()?;
-    records.turns.push(Turn::Stores).ok()?;
-    records.turns.push(Turn::Fails).ok()?;
-    records.turns.push(Turn::Fails).ok()?;
-    records.turns.push(Turn::Stores).ok()?;
-    Some(records)
+    let is_kept = records.append(alloc, Kind::Profile, profile).is_ok();
+    is_kept.then_some(records)
+}
+
+// What happens to the records after the first one.
+fn push_turns(records: &mut MemoryRecords) -> Option<()> {
+    push_turn(records, Turn::Stores)?;
+    push_turn(records, Turn::DropsInDoubt)?;
+    push_turn(records, Turn::Stores)?;
+    push_turn(records, Turn::Fails)?;
+    push_turn(records, Turn::Fails)?;
+    push_turn(records, Turn::Stores)
 }
 
 // The last reply, without its status.
@@ -63,19 +67,48 @@ fn finds<R: Threads + AllocGlobal>(
     Some(listed.as_str().ends_with(wanted) && str::from_utf8(&found).ok()? == dumped)
 }
 
-fn keeps<R: Threads + Wait + Sync + AllocGlobal>(rt: &R) -> Option<&'static str> {
-    let profile = CHAINED.as_bytes();
-    let mut bodies = bodies_of(rt.alloc(), SENT)?;
-    push_body(rt.alloc(), &mut bodies, b"dump")?;
-    let mirrors = mirrors_of_profile(rt.alloc(), profile)?;
-    let records = records_of(rt.alloc(), profile)?;
-    let (press, _views) = open_document(rt, rt.alloc(), profile, 1).ok()?;
+// Sends the bodies of rows to the desk of records, and then asks for a dump: the known records, and the replies.
+fn send_all<R: Threads + Wait + Sync + AllocGlobal>(
+    rt: &R,
+    records: MemoryRecords,
+    rows: &str,
+) -> Option<(MemoryRecords, Vec<String>)> {
+    let bodies = bodies_with_dump(rt.alloc(), rows)?;
+    let mirrors = mirrors_of_profile(rt.alloc(), CHAINED.as_bytes())?;
+    let (press, _views) = open_document(rt, rt.alloc(), CHAINED.as_bytes(), 1).ok()?;
     let (press, records, replies) = replies_kept(rt, press, records, mirrors, &bodies);
     press.end(rt);
-    let replies = replies?;
-    match finds(rt, records.stored.as_slice(), &replies, LISTED) {
-        Some(true) => Some(first_wrong(&replies, SENT)),
+    Some((records, replies?))
+}
+
+fn bodies_with_dump(alloc: Global, rows: &str) -> Option<Vec<Vec<u8>>> {
+    let mut bodies = bodies_of(alloc, rows)?;
+    match push_body(alloc, &mut bodies, b"dump") {
+        Some(()) => Some(bodies),
+        None => None,
+    }
+}
+
+// The first row that doesn't get what it says, `records` if a restart finds something else than these, else `none`.
+fn first_wrong_of<R: Threads + Wait + Sync + AllocGlobal>(
+    rt: &R,
+    records: Option<MemoryRecords>,
+    rows: &'static str,
+    listed: &str,
+) -> Option<&'static str> {
+    let (records, replies) = send_all(rt, records?, rows)?;
+    let known = records.stored.as_slice().get(..records.known)?;
+    match finds(rt, known, &replies, listed) {
+        Some(true) => Some(first_wrong(&replies, rows)),
         _ => Some("records"),
+    }
+}
+
+fn records_of(alloc: Global) -> Option<MemoryRecords> {
+    let mut records = begun(alloc, CHAINED.as_bytes())?;
+    match push_turns(&mut records) {
+        Some(()) => Some(records),
+        None => None,
     }
 }
 
@@ -85,7 +118,8 @@ fn keeps<R: Threads + Wait + Sync + AllocGlobal>(rt: &R) -> Option<&'static str>
 // rule: Edition of a whole history
 #[test]
 fn keeps_what_it_publishes_and_a_restart_finds_it(rt: HostRuntime) {
-    assert!(rt; keeps(&rt) == Some("none"));
+    let records = records_of(rt.alloc());
+    assert!(rt; first_wrong_of(&rt, records, SENT, LISTED) == Some("none"));
 }
 
 // What is sent to a server whose history others append to. Two records of theirs are there before it begins; then one comes
@@ -127,39 +161,33 @@ fn push_turn(records: &mut MemoryRecords, turn: Turn) -> Option<()> {
     records.turns.push(turn).ok()
 }
 
-// Records that begin with a profile, of which others append some.
-fn shared_of(alloc: Global, profile: &[u8]) -> Option<MemoryRecords> {
-    let mut records = MemoryRecords::new(alloc);
-    records.append(alloc, Kind::Profile, profile).ok()?;
+// What others append to records that begin with a profile, and when.
+fn push_others(records: &mut MemoryRecords, alloc: Global) -> Option<()> {
     let script =
         "schema = 1\nbase = 1\nedit = [{ do = \"set_withdrawn\", app = \"demo\", version = \"3.0\", on = true }]";
-    push_stored(&mut records, other(alloc, Kind::Script, script)?)?;
-    push_stored(&mut records, other(alloc, Kind::Raise, "raise m0 1000000")?)?;
-    let foreign = other(alloc, Kind::Profile, "schema = 1")?;
-    push_turn(&mut records, Turn::Loses(foreign))?;
-    push_turn(&mut records, Turn::Stores)?;
-    let raise = other(alloc, Kind::Raise, "raise m0 1500000")?;
-    push_turn(&mut records, Turn::Loses(raise))?;
-    push_turn(&mut records, Turn::Stores)?;
-    let script = other(alloc, Kind::Script, "schema = 1\nbase = 2")?;
-    push_turn(&mut records, Turn::Loses(script))?;
-    Some(records)
+    push_stored(records, other(alloc, Kind::Script, script)?)?;
+    push_stored(records, other(alloc, Kind::Raise, "raise m0 1000000")?)?;
+    push_turn(
+        records,
+        Turn::Loses(other(alloc, Kind::Profile, "schema = 1")?),
+    )?;
+    push_turn(records, Turn::Stores)?;
+    push_turn(
+        records,
+        Turn::Loses(other(alloc, Kind::Raise, "raise m0 1500000")?),
+    )?;
+    push_turn(records, Turn::Stores)?;
+    push_turn(
+        records,
+        Turn::Loses(other(alloc, Kind::Script, "schema = 1\nbase = 2")?),
+    )
 }
 
-fn follows<R: Threads + Wait + Sync + AllocGlobal>(rt: &R) -> Option<&'static str> {
-    let profile = CHAINED.as_bytes();
-    let mut bodies = bodies_of(rt.alloc(), SHARED)?;
-    push_body(rt.alloc(), &mut bodies, b"dump")?;
-    let mirrors = mirrors_of_profile(rt.alloc(), profile)?;
-    let records = shared_of(rt.alloc(), profile)?;
-    let (press, _views) = open_document(rt, rt.alloc(), profile, 1).ok()?;
-    let (press, records, replies) = replies_kept(rt, press, records, mirrors, &bodies);
-    press.end(rt);
-    let replies = replies?;
-    let known = records.stored.as_slice().get(..records.known)?;
-    match finds(rt, known, &replies, SHARED_LIST) {
-        Some(true) => Some(first_wrong(&replies, SHARED)),
-        _ => Some("records"),
+fn shared_of(alloc: Global) -> Option<MemoryRecords> {
+    let mut records = begun(alloc, CHAINED.as_bytes())?;
+    match push_others(&mut records, alloc) {
+        Some(()) => Some(records),
+        None => None,
     }
 }
 
@@ -169,5 +197,6 @@ fn follows<R: Threads + Wait + Sync + AllocGlobal>(rt: &R) -> Option<&'static st
 // rule: Servers of one history
 #[test]
 fn takes_over_what_other_servers_keep(rt: HostRuntime) {
-    assert!(rt; follows(&rt) == Some("none"));
+    let records = shared_of(rt.alloc());
+    assert!(rt; first_wrong_of(&rt, records, SHARED, SHARED_LIST) == Some("none"));
 }
