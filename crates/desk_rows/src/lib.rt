@@ -1,5 +1,5 @@
 //! Worked rows of what a server's workers do: messages and sessions with their replies, what a worker's desk replies,
-//! and a server with each byte of its connections, over ports in memory; and what the connections of `tests/corpus/` get.
+//! and a server with each byte of its connections, over ports in memory.
 //!
 //! It has tests alone, so that `service_desks` and `omaha_server` are proved once.
 
@@ -7,8 +7,6 @@
 
 #[cfg(test)]
 mod answers;
-#[cfg(test)]
-mod corpus_tests;
 #[cfg(test)]
 mod message_tests;
 #[cfg(test)]

@@ -1,5 +1,5 @@
 //! Worked rows of what a server decides: plans with their tables, and what is published to views and rejected; and what
-//! the hostile bodies of `tests/corpus/` are read as.
+//! the hostile bodies of `tests/corpus/` are read as, and its connections get.
 //!
 //! It has tests alone, so that `cohorts`, `editions`, `publisher` and `replies` are proved once. What a server replies is
 //! in rows of the program.
@@ -10,6 +10,8 @@
 mod asking;
 #[cfg(test)]
 mod batches;
+#[cfg(test)]
+mod connection_tests;
 #[cfg(test)]
 mod corpus_tests;
 #[cfg(test)]
