@@ -11,8 +11,8 @@ use std::thread::Threads;
 const REPLY: &str = r#")]}'
 {"response":{"app":[{"appid":"demo","cohort":"stable:0","cohortname":"stable","status":"ok","updatecheck":{"manifest":{"packages":{"package":[{"fp":"1.2222222222222222222222222222222222222222222222222222222222222222","hash_sha256":"2222222222222222222222222222222222222222222222222222222222222222","hashdiff_sha256":"1212121212121212121212121212121212121212121212121212121212121212","name":"demo-2.0.bin","namediff":"demo-1.0-2.0.bin","size":1200,"sizediff":300}]},"version":"2.0"},"status":"ok","urls":{"url":[{"codebase":"http://m0.example/p/"},{"codebasediff":"http://m0.example/p/"}]}}}],"daystart":{"elapsed_days":6940,"elapsed_seconds":3661},"protocol":"3.1"}}"#;
 
-/// The reply of a desk without room to the message of one client.
-pub(crate) const BUSY: &str = r#")]}'
+// The reply of a desk without room to the message of one client.
+const BUSY: &str = r#")]}'
 {"response":{"app":[{"appid":"demo","cohort":"stable:0","cohortname":"stable","status":"ok","updatecheck":{"status":"error-internal"}}],"daystart":{"elapsed_days":6940,"elapsed_seconds":3661},"protocol":"3.1"}}"#;
 
 // The whole reply with a body.
@@ -23,16 +23,17 @@ fn whole(alloc: Global, body: &str) -> Result<String, AllocError> {
     )
 }
 
-// Whether a peer that sends this message gets this body.
+// Whether a peer that sends this message gets this body, of a worker that asks a mirror so often.
 fn is_replied<R: Threads + Wait + AllocGlobal>(
     rt: &R,
     grants: bool,
     message: Option<String>,
+    asks: u64,
     wanted: &str,
 ) -> Option<bool> {
     let message = message?;
     let mut connection = Connection::new(rt.alloc(), message.as_str().as_bytes(), usize::MAX);
-    is_replied_over(rt, grants, &mut connection, wanted)
+    is_replied_over(rt, grants, &mut connection, asks, wanted)
 }
 
 // The same of a connection.
@@ -40,10 +41,12 @@ fn is_replied_over<R: Threads + Wait + AllocGlobal>(
     rt: &R,
     grants: bool,
     connection: &mut Connection<'_>,
+    asks: u64,
     wanted: &str,
 ) -> Option<bool> {
-    let _ended = serve_sent(rt, grants, false, connection)?;
-    has_reply(rt.alloc(), &connection.output.bytes, wanted)
+    let ended = serve_sent(rt, grants, false, connection)?;
+    let is_replied = has_reply(rt.alloc(), &connection.output.bytes, wanted)?;
+    Some(is_replied && ended.asks == asks)
 }
 
 // Whether the whole reply with this body was written, and nothing else.
@@ -53,11 +56,12 @@ fn has_reply(alloc: Global, written: &[u8], wanted: &str) -> Option<bool> {
 }
 
 // rule: Reply to a request
+// rule: Desk of a worker
 #[test]
 fn replies_with_the_offer_that_a_mirror_granted(rt: HostRuntime) {
     for (grants, wanted) in [(true, REPLY), (false, BUSY)] {
         let message = message_of(rt.alloc(), 1).ok();
-        assert!(rt; is_replied(&rt, grants, message, wanted) == Some(true));
+        assert!(rt; is_replied(&rt, grants, message, 1, wanted) == Some(true));
     }
 }
 
@@ -96,7 +100,7 @@ fn replies_to_requests_without_apps(rt: HostRuntime) {
     for row in WITHOUT_APPS.lines() {
         let message = message_without_apps(rt.alloc(), row);
         assert!(rt;
-            is_replied(&rt, false, message, NO_APPS) == Some(true),
+            is_replied(&rt, false, message, 0, NO_APPS) == Some(true),
             "{row}"
         );
     }

@@ -1,8 +1,7 @@
 // The desk of a worker, over a till in memory.
 
 use crate::answers::{replies_with, send};
-use crate::message_tests::BUSY;
-use fixtures::{CHAINED, PlainTill, is_line, mirrors_of, open_profile, publish_edits, request_of};
+use fixtures::{CHAINED, PlainTill, is_line, mirrors_of, open_profile, publish_edits};
 use http_desks::Desk;
 use publisher::{Press, View};
 use service_desks::Worker;
@@ -23,44 +22,19 @@ fn open_one<R: Threads + Wait>(rt: &R, alloc: Global) -> Option<(Press, View)> {
     }
 }
 
-// A till that grants all, or nothing.
-fn till_of(alloc: Global, grants: bool) -> Option<PlainTill> {
-    Some(PlainTill::new(mirrors_of(alloc, "1000000").ok()?, grants))
+// A till that grants all.
+fn till_of(alloc: Global) -> Option<PlainTill> {
+    Some(PlainTill::new(mirrors_of(alloc, "1000000").ok()?, true))
 }
 
 // The update check of a client at 2.0.
 const CHECK: &str =
     r#"{"request":{"app":[{"appid":"demo","cohort":"stable:0","packages":{"package":[{"fp":"1.2222222222222222222222222222222222222222222222222222222222222222"}]},"updatecheck":{},"version":"2.0"}],"protocol":"3.1"}}"#;
 
-// Whether a client gets that no mirror has room.
-fn says_busy<D: Desk>(desk: &mut D, alloc: Global) -> Option<bool> {
-    let body = request_of(alloc, 1).ok()?;
-    let reply = send(desk, alloc, body.as_str())?;
-    Some(reply.as_str().strip_prefix("200 ") == Some(BUSY))
-}
-
-// Whether a worker without room asks once, for 300 bytes, and says so.
-fn is_busy<R: Wait + AllocGlobal>(rt: &R, view: View) -> Option<bool> {
-    let mut worker = Worker::new(rt, view, till_of(rt.alloc(), false)?);
-    let is_said = says_busy(&mut worker, rt.alloc())?;
-    Some(is_said && worker.till.count == 1 && worker.till.last == 300)
-}
-
-// rule: Desk of a worker
-#[test]
-fn asks_once_and_says_that_no_mirror_has_room(rt: HostRuntime) {
-    let Some((press, view)) = open_one(&rt, rt.alloc()) else {
-        panic!(rt; "no press")
-    };
-    let is_busy = is_busy(&rt, view);
-    press.end(&rt);
-    assert!(rt; is_busy == Some(true));
-}
-
 // Whether a worker offers 3.0 before that is withdrawn and 4.0 afterwards, and has then seen 2 batches.
 fn follows<R: Threads + Wait + AllocGlobal>(rt: &R, press: &mut Press, view: View) -> Option<bool> {
     let alloc = rt.alloc();
-    let mut worker = Worker::new(rt, view, till_of(alloc, true)?);
+    let mut worker = Worker::new(rt, view, till_of(alloc)?);
     let is_before = replies_with(&mut worker, alloc, CHECK, "\"sizediff\":200");
     let is_published = publish_edits(rt, alloc, press, 1, "set_withdrawn demo 3.0 on").is_ok();
     let is_after = replies_with(&mut worker, alloc, CHECK, "\"sizediff\":500");
@@ -97,7 +71,7 @@ fn is_shut<D: Desk>(desk: &mut D, alloc: Global) -> bool {
 
 // Whether a worker is shut once its press has ended, and asked for nothing.
 fn is_closed<R: Threads + Wait + AllocGlobal>(rt: &R, press: Press, view: View) -> bool {
-    let Some(till) = till_of(rt.alloc(), true) else {
+    let Some(till) = till_of(rt.alloc()) else {
         press.end(rt);
         return false;
     };
