@@ -4,7 +4,6 @@ ghost use Rattle.access_logs.specs.Entries.{IsKept};
 use std::alloc::Global;
 
 /// The first of some bytes, up to so many: fewer if memory ran out.
-#[derive(Drop)]
 pub(crate) struct Kept {
     /// What is kept.
     pub(crate) bytes: Vec<u8>,
@@ -13,6 +12,17 @@ pub(crate) struct Kept {
     /// Whether memory ran out.
     pub(crate) is_short: bool,
     ghost within: { length bytes.items ≤ most },
+}
+
+// Written out, so that no caller proves again how each part is dropped.
+impl Drop for Kept {
+    fn drop(self) {
+        let Kept {
+            bytes: _,
+            most: _,
+            is_short: _,
+        } = self;
+    }
 }
 
 impl Kept {

@@ -6,7 +6,6 @@ use std::alloc::AllocError;
 use values::{Items, Shared, SharedItems, Text};
 
 /// An app with all that the catalogue holds of it.
-#[derive(Drop)]
 pub struct App {
     /// Its identifier, as it was added; identifiers compare without regard to ASCII case.
     pub id: Text,
@@ -16,6 +15,18 @@ pub struct App {
     pub releases: SharedItems<Release>,
     /// Its differentials by ascending `from`, then by ascending `to`; at most 16384.
     pub diffs: SharedItems<Shared<Diff>>,
+}
+
+// Written out, so that no caller proves again how each part is dropped.
+impl Drop for App {
+    fn drop(self) {
+        let App {
+            id: _,
+            cohorts: _,
+            releases: _,
+            diffs: _,
+        } = self;
+    }
 }
 
 // The derived clone of the cohorts, with its equation, which the clone of an app rests on.
@@ -57,7 +68,7 @@ impl App {
 }
 
 /// A release of an app, with its full package.
-#[derive(Clone, Drop)]
+#[derive(Clone)]
 pub struct Release {
     /// Its version, used once in the app.
     pub version: Version,
@@ -79,8 +90,25 @@ pub struct Release {
     pub floor: Version,
 }
 
+// Written out, so that no caller proves again how each part is dropped.
+impl Drop for Release {
+    fn drop(self) {
+        let Release {
+            version: _,
+            spelled: _,
+            name: _,
+            size: _,
+            hash: _,
+            stone: _,
+            withdrawn: _,
+            audience: _,
+            floor: _,
+        } = self;
+    }
+}
+
 /// A differential package, which leads from one release of an app to a higher one.
-#[derive(Clone, Drop)]
+#[derive(Clone)]
 pub struct Diff {
     /// The version of the release that it starts at.
     pub from: Version,
@@ -94,8 +122,21 @@ pub struct Diff {
     pub hash: [u8; 32],
 }
 
+// Written out, so that no caller proves again how each part is dropped.
+impl Drop for Diff {
+    fn drop(self) {
+        let Diff {
+            from: _,
+            to: _,
+            name: _,
+            size: _,
+            hash: _,
+        } = self;
+    }
+}
+
 /// A group of an app's clients that is served alike.
-#[derive(Clone, Drop)]
+#[derive(Clone)]
 pub struct Cohort {
     /// Its name, used once in the app.
     pub name: Text,
@@ -109,4 +150,18 @@ pub struct Cohort {
     pub rollback: bool,
     /// Whether a client's hint may name it.
     pub hintable: bool,
+}
+
+// Written out, so that no caller proves again how each part is dropped.
+impl Drop for Cohort {
+    fn drop(self) {
+        let Cohort {
+            name: _,
+            target: _,
+            held: _,
+            share: _,
+            rollback: _,
+            hintable: _,
+        } = self;
+    }
 }

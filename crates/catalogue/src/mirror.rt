@@ -8,7 +8,7 @@ use values::Text;
 const MAX_BUDGET: u64 = 1 << 60;
 
 /// A server that clients download packages from.
-#[derive(Clone, Drop)]
+#[derive(Clone)]
 pub struct Mirror {
     /// Its name, which is a valid cohort name and is used once.
     pub name: Text,
@@ -16,6 +16,17 @@ pub struct Mirror {
     pub codebase: Text,
     /// How many bytes it may be granted in all, at most 2^60.
     pub budget: u64,
+}
+
+// Written out, so that no caller proves again how each part is dropped.
+impl Drop for Mirror {
+    fn drop(self) {
+        let Mirror {
+            name: _,
+            codebase: _,
+            budget: _,
+        } = self;
+    }
 }
 
 fn is_codebase_byte(byte: u8) -> bool

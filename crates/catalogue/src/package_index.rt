@@ -93,11 +93,20 @@ fn share(alloc: Global, shards: &[Arc<Shard>]) -> Result<Vec<Arc<Shard>>, AllocE
 }
 
 /// What is declared of each package, by the package's name.
-#[derive(Drop)]
 pub(crate) struct PackageIndex {
     alloc: Global,
     // none at first, and all from the first package on
     shards: Vec<Arc<Shard>>,
+}
+
+// Written out, so that no caller proves again how each part is dropped.
+impl Drop for PackageIndex {
+    fn drop(self) {
+        let PackageIndex {
+            alloc: _,
+            shards: _,
+        } = self;
+    }
 }
 
 impl PackageIndex {

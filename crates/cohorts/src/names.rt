@@ -4,7 +4,6 @@ use crate::track::Lane;
 use values::Text;
 
 /// The names of a track.
-#[derive(Drop)]
 pub struct TrackNames {
     /// The app's identifier, in any case of ASCII letters.
     pub app: Text,
@@ -14,4 +13,16 @@ pub struct TrackNames {
     pub lane: Lane,
     /// Whether the clients allow a downgrade.
     pub rollback: bool,
+}
+
+// Written out, so that no caller proves again how each part is dropped.
+impl Drop for TrackNames {
+    fn drop(self) {
+        let TrackNames {
+            app: _,
+            cohort: _,
+            lane: _,
+            rollback: _,
+        } = self;
+    }
 }

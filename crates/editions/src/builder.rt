@@ -14,11 +14,21 @@ use std::sync::Arc;
 use std::thread::Threads;
 
 /// A history of accepted batches with its catalogue, of which no table is made, which contracts see as the history.
-#[derive(Drop)]
 pub struct EditionBuilder {
     alloc: Global,
     batches: Vec<Arc<Batch>>,
     catalogue: Catalogue,
+}
+
+// Written out, so that no caller proves again how each part is dropped.
+impl Drop for EditionBuilder {
+    fn drop(self) {
+        let EditionBuilder {
+            alloc: _,
+            batches: _,
+            catalogue: _,
+        } = self;
+    }
 }
 
 impl Model for EditionBuilder {

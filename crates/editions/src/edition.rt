@@ -25,12 +25,23 @@ pub(crate) const MAX_BATCHES: usize = 4096;
 /// contracts see as the history.
 ///
 /// Its batches are shared with the editions before and after it.
-#[derive(Drop)]
 pub struct Edition {
     alloc: Global,
     batches: Vec<Arc<Batch>>,
     catalogue: Catalogue,
     tables: TrackTables,
+}
+
+// Written out, so that no caller proves again how each part is dropped.
+impl Drop for Edition {
+    fn drop(self) {
+        let Edition {
+            alloc: _,
+            batches: _,
+            catalogue: _,
+            tables: _,
+        } = self;
+    }
 }
 
 impl Model for Edition {

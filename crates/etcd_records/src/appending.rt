@@ -24,10 +24,19 @@ use kept_records::{AppendFault, Cause, Kind, MAX_RECORDS, ReadFault, Record, Rec
 use std::alloc::{AllocError, Global};
 
 // A transaction, and the value in base64 that it puts.
-#[derive(Drop)]
 struct Wanted {
     request: String,
     value: String,
+}
+
+// Written out, so that no caller proves again how each part is dropped.
+impl Drop for Wanted {
+    fn drop(self) {
+        let Wanted {
+            request: _,
+            value: _,
+        } = self;
+    }
 }
 
 impl<G: Gateway> EtcdRecords<G> {

@@ -41,7 +41,6 @@ impl Mark {
 }
 
 /// The last known record.
-#[derive(Drop)]
 pub(crate) struct Last {
     /// The record.
     pub(crate) mark: Mark,
@@ -49,6 +48,17 @@ pub(crate) struct Last {
     pub(crate) was_read: bool,
     /// What was left of the limit before it.
     pub(crate) left: Option<u64>,
+}
+
+// Written out, so that no caller proves again how each part is dropped.
+impl Drop for Last {
+    fn drop(self) {
+        let Last {
+            mark: _,
+            was_read: _,
+            left: _,
+        } = self;
+    }
 }
 
 /// Notes that a record, if there is one, is no longer the last one.

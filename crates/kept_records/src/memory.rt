@@ -7,7 +7,6 @@ use crate::turn::Turn;
 use values::Items;
 
 /// Records in memory, of which some may be those of other writers that aren't known yet.
-#[derive(Drop)]
 pub struct MemoryRecords {
     /// The number of the first record, from 1 to 2^53.
     pub first: u64,
@@ -23,4 +22,18 @@ pub struct MemoryRecords {
     pub fails_after: Option<usize>,
     ghost within: { known ≤ length stored },
     ghost numbered: { (1 ≤ first) × (first ≤ 2 ^ 53) },
+}
+
+// Written out, so that no caller proves again how each part is dropped.
+impl Drop for MemoryRecords {
+    fn drop(self) {
+        let MemoryRecords {
+            first: _,
+            stored: _,
+            known: _,
+            limit: _,
+            turns: _,
+            fails_after: _,
+        } = self;
+    }
 }

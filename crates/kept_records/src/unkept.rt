@@ -9,10 +9,16 @@ use std::alloc::Global;
 use streams::Trace;
 
 // What was appended, without its bytes.
-#[derive(Drop)]
 struct Note {
     kind: Kind,
     bytes: Trace<u8>,
+}
+
+// Written out, so that no caller proves again how each part is dropped.
+impl Drop for Note {
+    fn drop(self) {
+        let Note { kind: _, bytes: _ } = self;
+    }
 }
 
 impl Note {
@@ -30,11 +36,17 @@ impl Note {
 /// Records that no restart finds, for a server without a history. It takes no memory and has no limit.
 ///
 /// Contracts see those that were appended as known.
-#[derive(Drop)]
 pub struct Unkept {
     first: u64,
     notes: Trace<Note>,
     ghost numbered: { (1 ≤ first) × (first ≤ 2 ^ 53) },
+}
+
+// Written out, so that no caller proves again how each part is dropped.
+impl Drop for Unkept {
+    fn drop(self) {
+        let Unkept { first: _, notes: _ } = self;
+    }
 }
 
 impl Unkept {

@@ -13,7 +13,6 @@ pub struct Invocation {
 }
 
 /// What a run of the program is asked to do.
-#[derive(Drop)]
 pub enum Command {
     /// To reply to a request.
     Once(Once),
@@ -49,8 +48,31 @@ pub enum Command {
     History(HistoryAsked),
 }
 
+// Written out, so that no caller proves again how each part is dropped.
+impl Drop for Command {
+    fn drop(self) {
+        match self {
+            Command::Once(_) => {}
+            Command::Report(_) => {}
+            Command::Compare(_) => {}
+            Command::Review(_) => {}
+            Command::Graph(_) => {}
+            Command::Describe(_) => {}
+            Command::Explain(_) => {}
+            Command::Serve(_) => {}
+            Command::Walk(_) => {}
+            Command::Publish(_) => {}
+            Command::Script(_) => {}
+            Command::Raise(_) => {}
+            Command::Dump(_) => {}
+            Command::Status(_) => {}
+            Command::Stop(_) => {}
+            Command::History(_) => {}
+        }
+    }
+}
+
 /// What the command `once` is asked to do.
-#[derive(Drop)]
 pub struct Once {
     /// The path of the profile, or `None` for the built-in catalogue.
     pub profile: Option<Text>,
@@ -58,13 +80,29 @@ pub struct Once {
     pub moment: u64,
 }
 
+// Written out, so that no caller proves again how each part is dropped.
+impl Drop for Once {
+    fn drop(self) {
+        let Once {
+            profile: _,
+            moment: _,
+        } = self;
+    }
+}
+
 /// What the command `history` is asked to do.
-#[derive(Drop)]
 pub struct HistoryAsked {
     /// The path of the history.
     pub path: Text,
     /// What to do with it.
     pub action: HistoryAction,
+}
+
+// Written out, so that no caller proves again how each part is dropped.
+impl Drop for HistoryAsked {
+    fn drop(self) {
+        let HistoryAsked { path: _, action: _ } = self;
+    }
 }
 
 /// What to do with a history.
@@ -79,7 +117,6 @@ pub enum HistoryAction {
 }
 
 /// What the command `serve` is asked to do. It names a profile or a history, or both.
-#[derive(Drop)]
 pub struct Serve {
     /// The path of the profile, or `None` for that of the history.
     pub profile: Option<Text>,
@@ -115,8 +152,31 @@ pub struct Serve {
     pub log: Option<Text>,
 }
 
+// Written out, so that no caller proves again how each part is dropped.
+impl Drop for Serve {
+    fn drop(self) {
+        let Serve {
+            profile: _,
+            history: _,
+            history_limit: _,
+            follow: _,
+            packages: _,
+            packages_must_exist: _,
+            listen: _,
+            operator: _,
+            workers: _,
+            sessions: _,
+            edits: _,
+            timeout: _,
+            idle: _,
+            connections: _,
+            pinned_tables: _,
+            log: _,
+        } = self;
+    }
+}
+
 /// What the command `publish` is asked to do.
-#[derive(Drop)]
 pub struct Publication {
     /// The operator's listener, as `HOST:PORT`.
     pub to: Text,
@@ -130,13 +190,32 @@ pub struct Publication {
     pub timeout: u64,
 }
 
+// Written out, so that no caller proves again how each part is dropped.
+impl Drop for Publication {
+    fn drop(self) {
+        let Publication {
+            to: _,
+            script: _,
+            check: _,
+            packages: _,
+            timeout: _,
+        } = self;
+    }
+}
+
 /// What a command is asked to do that only asks a server: `dump` or `status`.
-#[derive(Drop)]
 pub struct ServerAsked {
     /// The operator's listener, as `HOST:PORT`.
     pub to: Text,
     /// How many seconds the whole exchange may take: 1 to 86400.
     pub timeout: u64,
+}
+
+// Written out, so that no caller proves again how each part is dropped.
+impl Drop for ServerAsked {
+    fn drop(self) {
+        let ServerAsked { to: _, timeout: _ } = self;
+    }
 }
 
 /// What the command `stop` is asked to do.
@@ -158,7 +237,6 @@ pub enum Base {
 }
 
 /// What the command `script` is asked to do.
-#[derive(Drop)]
 pub struct Script {
     /// The edition that the script is written for.
     pub base: Base,
@@ -166,8 +244,14 @@ pub struct Script {
     pub words: Items<Text>,
 }
 
+// Written out, so that no caller proves again how each part is dropped.
+impl Drop for Script {
+    fn drop(self) {
+        let Script { base: _, words: _ } = self;
+    }
+}
+
 /// What the command `raise` is asked to do.
-#[derive(Drop)]
 pub struct Raise {
     /// The operator's listener, as `HOST:PORT`.
     pub to: Text,
@@ -179,8 +263,19 @@ pub struct Raise {
     pub timeout: u64,
 }
 
+// Written out, so that no caller proves again how each part is dropped.
+impl Drop for Raise {
+    fn drop(self) {
+        let Raise {
+            to: _,
+            name: _,
+            budget: _,
+            timeout: _,
+        } = self;
+    }
+}
+
 /// What the command `check` is asked to do with a folder of packages.
-#[derive(Drop)]
 pub struct Comparison {
     /// The path of the profile.
     pub profile: Text,
@@ -188,6 +283,17 @@ pub struct Comparison {
     pub packages: Text,
     /// How many threads make the tables: 1 to 8.
     pub workers: usize,
+}
+
+// Written out, so that no caller proves again how each part is dropped.
+impl Drop for Comparison {
+    fn drop(self) {
+        let Comparison {
+            profile: _,
+            packages: _,
+            workers: _,
+        } = self;
+    }
 }
 
 /// Where the catalogue is that is reviewed.
@@ -200,7 +306,6 @@ pub enum Source {
 }
 
 /// What the command `review` is asked to do.
-#[derive(Drop)]
 pub struct Review {
     /// Where the catalogue is.
     pub source: Source,
@@ -214,8 +319,20 @@ pub struct Review {
     pub strict: bool,
 }
 
+// Written out, so that no caller proves again how each part is dropped.
+impl Drop for Review {
+    fn drop(self) {
+        let Review {
+            source: _,
+            script: _,
+            all: _,
+            json: _,
+            strict: _,
+        } = self;
+    }
+}
+
 /// What the command `graph` is asked to do.
-#[derive(Drop)]
 pub struct Graph {
     /// The path of the profile.
     pub profile: Text,
@@ -229,8 +346,20 @@ pub struct Graph {
     pub dot: bool,
 }
 
+// Written out, so that no caller proves again how each part is dropped.
+impl Drop for Graph {
+    fn drop(self) {
+        let Graph {
+            profile: _,
+            app: _,
+            cohort: _,
+            from: _,
+            dot: _,
+        } = self;
+    }
+}
+
 /// What the command `walk` is asked to do. What isn't given is empty.
-#[derive(Drop)]
 pub struct Walk {
     /// The server, as `HOST:PORT`.
     pub to: Text,
@@ -252,8 +381,24 @@ pub struct Walk {
     pub timeout: u64,
 }
 
+// Written out, so that no caller proves again how each part is dropped.
+impl Drop for Walk {
+    fn drop(self) {
+        let Walk {
+            to: _,
+            app: _,
+            version: _,
+            fp: _,
+            cohort: _,
+            session: _,
+            prefix: _,
+            rollback: _,
+            timeout: _,
+        } = self;
+    }
+}
+
 /// What is asked about a profile.
-#[derive(Drop)]
 pub struct Report {
     /// The path of the profile.
     pub profile: Text,
@@ -261,6 +406,17 @@ pub struct Report {
     pub workers: usize,
     /// The question.
     pub question: Question,
+}
+
+// Written out, so that no caller proves again how each part is dropped.
+impl Drop for Report {
+    fn drop(self) {
+        let Report {
+            profile: _,
+            workers: _,
+            question: _,
+        } = self;
+    }
 }
 
 /// A question about a profile.

@@ -17,7 +17,7 @@ use values::{ReadError, Text};
 /// Why a command fails; it prints as the rest of the line that begins `omaha: `.
 ///
 /// Those of the profile come before those of the request.
-#[derive(Debug, Drop)]
+#[derive(Debug)]
 pub enum Failure {
     /// The profile's file, of that path, could not be read, or has over 256 MiB; or the log's, of that path, could
     /// not be opened; or there is no folder of packages of that path. The path prints without control characters.
@@ -78,6 +78,42 @@ pub enum Failure {
     Memory,
     /// The reply could not be written.
     Write,
+}
+
+// Written out, so that no caller proves again how each part is dropped.
+impl Drop for Failure {
+    fn drop(self) {
+        match self {
+            Failure::File(_) => {}
+            Failure::Undescribed(_, _) => {}
+            Failure::Packages(_) => {}
+            Failure::Package(_, _) => {}
+            Failure::Profile(_) => {}
+            Failure::Edit(_) => {}
+            Failure::Script(_) => {}
+            Failure::Stale(_) => {}
+            Failure::HistoryFull => {}
+            Failure::Stuck(_) => {}
+            Failure::Read => {}
+            Failure::TooLong => {}
+            Failure::Request(_) => {}
+            Failure::Certificate(_) => {}
+            Failure::Code(_) => {}
+            Failure::Net(_) => {}
+            Failure::History(_, _) => {}
+            Failure::Stopping(_) => {}
+            Failure::NoPlace => {}
+            Failure::Closed => {}
+            Failure::Thread => {}
+            Failure::RoomLeft => {}
+            Failure::Unpublished => {}
+            Failure::EndedEarly => {}
+            Failure::Walk(_) => {}
+            Failure::Declined(_) => {}
+            Failure::Memory => {}
+            Failure::Write => {}
+        }
+    }
 }
 
 // rule: Printed failure

@@ -9,7 +9,7 @@ use std::error::Error;
 use std::fmt;
 
 /// What is wrong with a history; it prints as the reason after its path.
-#[derive(Debug, Drop)]
+#[derive(Debug)]
 pub enum HistoryFault {
     /// It can't be opened.
     Open(OpenFault),
@@ -23,6 +23,20 @@ pub enum HistoryFault {
     Empty,
     /// It has no edition of this number.
     NoEdition(u64),
+}
+
+// Written out, so that no caller proves again how each part is dropped.
+impl Drop for HistoryFault {
+    fn drop(self) {
+        match self {
+            HistoryFault::Open(_) => {}
+            HistoryFault::Append(_) => {}
+            HistoryFault::Record(_, _) => {}
+            HistoryFault::OtherProfile => {}
+            HistoryFault::Empty => {}
+            HistoryFault::NoEdition(_) => {}
+        }
+    }
 }
 
 // The words for what made a call fail.

@@ -1,7 +1,6 @@
 use values::{Items, Text};
 
 /// What one request of the Omaha protocol 3.1, JSON form, asks.
-#[derive(Drop)]
 pub struct Request {
     /// The member `sessionid`, empty if it is missing.
     pub session: Text,
@@ -9,8 +8,14 @@ pub struct Request {
     pub apps: Items<AppAsk>,
 }
 
+// Written out, so that no caller proves again how each part is dropped.
+impl Drop for Request {
+    fn drop(self) {
+        let Request { session: _, apps: _ } = self;
+    }
+}
+
 /// What a request asks for one app.
-#[derive(Drop)]
 pub struct AppAsk {
     /// The identifier as the client spells it, 1 to 256 bytes.
     pub appid: Text,
@@ -30,8 +35,23 @@ pub struct AppAsk {
     pub events: usize,
 }
 
+// Written out, so that no caller proves again how each part is dropped.
+impl Drop for AppAsk {
+    fn drop(self) {
+        let AppAsk {
+            appid: _,
+            version: _,
+            fp: _,
+            cohort: _,
+            hint: _,
+            check: _,
+            ping: _,
+            events: _,
+        } = self;
+    }
+}
+
 /// An update check: what a client says when it asks for an update.
-#[derive(Drop)]
 pub struct Check {
     /// Whether updates are disabled, the member `updatedisabled`.
     pub disabled: bool,
@@ -39,4 +59,11 @@ pub struct Check {
     pub rollback: bool,
     /// The member `targetversionprefix`, empty if it is missing.
     pub prefix: Text,
+}
+
+// Written out, so that no caller proves again how each part is dropped.
+impl Drop for Check {
+    fn drop(self) {
+        let Check { disabled: _, rollback: _, prefix: _ } = self;
+    }
 }

@@ -18,13 +18,23 @@ use values::Text;
 const MAX_REPORTED: usize = 256;
 
 /// The lines that a server says of itself. A lock holds them, which no whole reply waits for.
-#[derive(Drop)]
 pub(crate) struct Notes {
     alloc: Global,
     // where the lines go, if there is somebody who asked for them
     sender: Option<LineSender>,
     // the packages of the edition whose failed downloads were reported
     reported: Vec<Text>,
+}
+
+// Written out, so that no caller proves again how each part is dropped.
+impl Drop for Notes {
+    fn drop(self) {
+        let Notes {
+            alloc: _,
+            sender: _,
+            reported: _,
+        } = self;
+    }
 }
 
 // A line of the server.

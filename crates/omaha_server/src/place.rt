@@ -5,7 +5,6 @@ ghost use Rattle.std.specs.Prelude.{◌<◌, ◌≤◌};
 use values::Text;
 
 /// Where a service is served, by how many workers, and for how long.
-#[derive(Drop)]
 pub struct Place {
     /// The address and the port to listen on.
     pub address: Text,
@@ -37,4 +36,26 @@ pub struct Place {
     pub version: Text,
     ghost limited: { (0 < seconds) × (0 < idle) },
     ghost manned: { (1 ≤ workers) × (workers ≤ 8) },
+}
+
+// Written out, so that no caller proves again how each part is dropped.
+impl Drop for Place {
+    fn drop(self) {
+        let Place {
+            address: _,
+            operator: _,
+            packages: _,
+            workers: _,
+            sessions: _,
+            edits: _,
+            log: _,
+            seconds: _,
+            idle: _,
+            connections: _,
+            pinned_tables: _,
+            packages_must_exist: _,
+            named: _,
+            version: _,
+        } = self;
+    }
 }

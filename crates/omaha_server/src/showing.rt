@@ -25,12 +25,23 @@ use std::alloc::{AllocError, Global};
 use std::sync::Wait;
 
 // The mirrors with their present budgets, what each granted so far, what was served, and what is seen of the apps.
-#[derive(Drop)]
 struct Funds {
     mirrors: Vec<Mirror>,
     granted: Vec<u64>,
     served: Served,
     sights: Vec<AppSight>,
+}
+
+// Written out, so that no caller proves again how each part is dropped.
+impl Drop for Funds {
+    fn drop(self) {
+        let Funds {
+            mirrors: _,
+            granted: _,
+            served: _,
+            sights: _,
+        } = self;
+    }
 }
 
 // What each of so many mirrors granted so far.

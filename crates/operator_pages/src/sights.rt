@@ -12,7 +12,6 @@ use std::fmt::Write;
 use values::{Items, Text};
 
 /// Clients who are stuck at a release.
-#[derive(Drop)]
 pub struct StuckClients {
     /// The version of the release.
     pub version: Text,
@@ -22,8 +21,18 @@ pub struct StuckClients {
     pub reason: Text,
 }
 
+// Written out, so that no caller proves again how each part is dropped.
+impl Drop for StuckClients {
+    fn drop(self) {
+        let StuckClients {
+            version: _,
+            clients: _,
+            reason: _,
+        } = self;
+    }
+}
+
 /// The stuck clients of an app.
-#[derive(Drop)]
 pub struct StuckList {
     /// The first ones.
     pub first: Items<StuckClients>,
@@ -31,13 +40,32 @@ pub struct StuckList {
     pub others: usize,
 }
 
+// Written out, so that no caller proves again how each part is dropped.
+impl Drop for StuckList {
+    fn drop(self) {
+        let StuckList {
+            first: _,
+            others: _,
+        } = self;
+    }
+}
+
 /// What is seen of the releases of an app.
-#[derive(Drop)]
 pub struct AppSight {
     /// The stuck clients, `None` if they weren't looked for.
     pub stuck: Option<StuckList>,
     /// The picture of the releases, as an SVG image; `None` if they weren't drawn.
     pub drawing: Option<Text>,
+}
+
+// Written out, so that no caller proves again how each part is dropped.
+impl Drop for AppSight {
+    fn drop(self) {
+        let AppSight {
+            stuck: _,
+            drawing: _,
+        } = self;
+    }
 }
 
 // rule: Row of stuck clients

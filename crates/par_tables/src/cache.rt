@@ -22,11 +22,20 @@ use std::num::NonZeroUsize;
 ///
 /// There are at most as many as its capacity: the one that was used least recently goes for another one. Whoever has
 /// the cache clears it for another catalogue.
-#[derive(Drop)]
 pub struct TableCache {
     capacity: usize,
     // None until a table is kept.
     entries: Option<LruCache<TrackKey, Certified>>,
+}
+
+// Written out, so that no caller proves again how each part is dropped.
+impl Drop for TableCache {
+    fn drop(self) {
+        let TableCache {
+            capacity: _,
+            entries: _,
+        } = self;
+    }
 }
 
 impl Model for TableCache {

@@ -15,11 +15,21 @@ use std::marker::Model;
 /// The tables of a catalogue in the order of its tracks, which contracts see as their list.
 ///
 /// Beside the list it keeps a number for each app and each cohort.
-#[derive(Drop)]
 pub struct TrackTables {
     list: Vec<Certified>,
     starts: Vec<usize>,
     firsts: Vec<usize>,
+}
+
+// Written out, so that no caller proves again how each part is dropped.
+impl Drop for TrackTables {
+    fn drop(self) {
+        let TrackTables {
+            list: _,
+            starts: _,
+            firsts: _,
+        } = self;
+    }
 }
 
 impl Model for TrackTables {

@@ -24,7 +24,6 @@ use std::marker::Model;
 /// The permitted payloads of a track, which contracts see as a `Net`.
 ///
 /// It keeps a door and a number for each release, its differentials, and the full packages that open late.
-#[derive(Drop)]
 pub struct Graph {
     key: TrackKey,
     target: usize,
@@ -33,6 +32,21 @@ pub struct Graph {
     reaches: Vec<usize>,
     late: Vec<Edge>,
     differs: Vec<Edge>,
+}
+
+// Written out, so that no caller proves again how each part is dropped.
+impl Drop for Graph {
+    fn drop(self) {
+        let Graph {
+            key: _,
+            target: _,
+            rollback: _,
+            doors: _,
+            reaches: _,
+            late: _,
+            differs: _,
+        } = self;
+    }
 }
 
 impl Model for Graph {

@@ -14,7 +14,6 @@ use std::marker::Model;
 use values::{Items, ReadError, Text};
 
 /// A table `cohort`.
-#[derive(Drop)]
 pub(crate) struct CohortEntry {
     /// The key `name`.
     pub name: Text,
@@ -30,12 +29,35 @@ pub(crate) struct CohortEntry {
     pub hintable: bool,
 }
 
+// Written out, so that no caller proves again how each part is dropped.
+impl Drop for CohortEntry {
+    fn drop(self) {
+        let CohortEntry {
+            name: _,
+            target: _,
+            held: _,
+            share: _,
+            rollback: _,
+            hintable: _,
+        } = self;
+    }
+}
+
 /// The cohorts of an app that were read, which contracts see as their list; a name is found among
 /// theirs in logarithmic time.
-#[derive(Drop)]
 struct Cohorts {
     entries: Items<CohortEntry>,
     names: BTreeSet<String>,
+}
+
+// Written out, so that no caller proves again how each part is dropped.
+impl Drop for Cohorts {
+    fn drop(self) {
+        let Cohorts {
+            entries: _,
+            names: _,
+        } = self;
+    }
 }
 
 impl Model for Cohorts {

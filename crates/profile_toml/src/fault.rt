@@ -5,7 +5,7 @@ use values::Text;
 /// Why a document is no profile, or no script.
 ///
 /// An earlier variant is reported before a later one.
-#[derive(Debug, Drop)]
+#[derive(Debug)]
 pub enum ProfileFault {
     /// F1: the bytes are not UTF-8, or not TOML.
     NotToml,
@@ -20,6 +20,19 @@ pub enum ProfileFault {
     BadMirror(usize),
     /// F5: a script has more than 4096 edits.
     TooManyEdits,
+}
+
+// Written out, so that no caller proves again how each part is dropped.
+impl Drop for ProfileFault {
+    fn drop(self) {
+        match self {
+            ProfileFault::NotToml => {}
+            ProfileFault::BadSchema => {}
+            ProfileFault::BadEntry(_) => {}
+            ProfileFault::BadMirror(_) => {}
+            ProfileFault::TooManyEdits => {}
+        }
+    }
 }
 
 /// Writes the fault's code and name, and after a space the path or the index.

@@ -14,11 +14,21 @@ use std::sync::Arc;
 /// A worker's view of the published editions: what it has seen, and what it has learnt.
 ///
 /// It may be moved to another thread.
-#[derive(Drop)]
 pub struct View {
     reader: ViewReader,
     seen: u64,
     learnt: Learnt,
+}
+
+// Written out, so that no caller proves again how each part is dropped.
+impl Drop for View {
+    fn drop(self) {
+        let View {
+            reader: _,
+            seen: _,
+            learnt: _,
+        } = self;
+    }
 }
 
 impl Model for View {

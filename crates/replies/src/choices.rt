@@ -15,7 +15,6 @@ pub struct Choice {
 }
 
 /// Who asks for each app of a request, and what is chosen for it, both in the request's order.
-#[derive(Drop)]
 pub struct Plan {
     /// The clients of the apps; none for an unknown app.
     pub clients: Items<Option<Assignment>>,
@@ -24,4 +23,15 @@ pub struct Plan {
     pub choices: Items<Option<Choice>>,
     /// The tables by which pinned clients were chosen for, one a track; an edition has those of the others.
     pub tables: Items<Certified>,
+}
+
+// Written out, so that no caller proves again how each part is dropped.
+impl Drop for Plan {
+    fn drop(self) {
+        let Plan {
+            clients: _,
+            choices: _,
+            tables: _,
+        } = self;
+    }
 }

@@ -17,12 +17,21 @@ use price_cert::Certified;
 use std::alloc::{AllocError, Global};
 
 /// The reviews of a catalogue's tracks after a change.
-#[derive(Drop)]
 pub struct LaterReviews {
     /// The reviews, in the order of the tables.
     pub tracks: Vec<TrackReview>,
     /// For each review the index of the one before the change that it is a copy of, `None` if it was made anew.
     pub sources: Vec<Option<usize>>,
+}
+
+// Written out, so that no caller proves again how each part is dropped.
+impl Drop for LaterReviews {
+    fn drop(self) {
+        let LaterReviews {
+            tracks: _,
+            sources: _,
+        } = self;
+    }
 }
 
 // The review of a track after a change, and its source.

@@ -22,7 +22,6 @@ use std::alloc::{AllocError, Global};
 use values::SharedItems;
 
 /// What is said of the clients of a track with a target.
-#[derive(Drop)]
 pub struct TrackReview {
     /// The track's key; its clients have no pin.
     pub key: TrackKey,
@@ -38,6 +37,21 @@ pub struct TrackReview {
     pub longest: Option<Largest>,
     /// What clients outside of all releases are offered, from version 0.
     pub newcomers: Quote,
+}
+
+// Written out, so that no caller proves again how each part is dropped.
+impl Drop for TrackReview {
+    fn drop(self) {
+        let TrackReview {
+            key: _,
+            target: _,
+            outcomes: _,
+            steps: _,
+            largest: _,
+            longest: _,
+            newcomers: _,
+        } = self;
+    }
 }
 
 // The track of a key whose clients have no pin, `None` if it has no target.

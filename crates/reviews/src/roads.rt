@@ -9,7 +9,6 @@ use payload_graph::Door;
 use std::alloc::{AllocError, Global};
 
 /// The full packages of a track, by the releases that they lead to.
-#[derive(Drop)]
 pub(crate) struct Roads {
     /// The index of the target.
     pub(crate) target: usize,
@@ -17,6 +16,17 @@ pub(crate) struct Roads {
     pub(crate) rollback: bool,
     /// The releases as destinations, in order.
     pub(crate) doors: Vec<Door>,
+}
+
+// Written out, so that no caller proves again how each part is dropped.
+impl Drop for Roads {
+    fn drop(self) {
+        let Roads {
+            target: _,
+            rollback: _,
+            doors: _,
+        } = self;
+    }
 }
 
 /// The flag at an index, false if there is none.

@@ -19,11 +19,17 @@ use tallies::CountChecks;
 /// A view that enters an edition for each call, which contracts see as the view.
 ///
 /// With it are tables of pinned clients' tracks, of the edition that it has entered last for a request.
-#[derive(Drop)]
 pub struct HeldView {
     // Empty only within a method.
     view: Option<View>,
     kept: KeptTables,
+}
+
+// Written out, so that no caller proves again how each part is dropped.
+impl Drop for HeldView {
+    fn drop(self) {
+        let HeldView { view: _, kept: _ } = self;
+    }
 }
 
 impl Model for HeldView {

@@ -8,10 +8,19 @@ use editions::Edition;
 use par_tables::TableCache;
 
 /// Tables of pinned tracks, with the number of the edition that they are of.
-#[derive(Drop)]
 pub(crate) struct KeptTables {
     pub(crate) number: u64,
     pub(crate) tables: TableCache,
+}
+
+// Written out, so that no caller proves again how each part is dropped.
+impl Drop for KeptTables {
+    fn drop(self) {
+        let KeptTables {
+            number: _,
+            tables: _,
+        } = self;
+    }
 }
 
 impl KeptTables {

@@ -10,9 +10,15 @@ enum Entries<T> {
 }
 
 /// What has happened, in order, which contracts see as a list. It takes no memory.
-#[derive(Drop)]
 pub struct Trace<T> {
     entries: Entries<T>,
+}
+
+// Written out, so that no caller proves again how each part is dropped.
+impl<T: Drop> Drop for Trace<T> {
+    fn drop(self) {
+        let Trace { entries: _ } = self;
+    }
 }
 
 impl<T> Model for Trace<T> {

@@ -9,10 +9,19 @@ use crate::totals::{Totals, totals_of};
 use std::alloc::{AllocError, Global};
 
 /// A tally for each worker.
-#[derive(Drop)]
 pub struct Tallies {
     first: Tally,
     others: Vec<Tally>,
+}
+
+// Written out, so that no caller proves again how each part is dropped.
+impl Drop for Tallies {
+    fn drop(self) {
+        let Tallies {
+            first: _,
+            others: _,
+        } = self;
+    }
 }
 
 // The tallies of the workers after the first.

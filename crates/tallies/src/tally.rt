@@ -19,11 +19,21 @@ const MORE_APPS: usize = 256;
 const MORE_COHORTS: usize = 16;
 
 // The update checks of a cohort's clients, by their outcomes.
-#[derive(Drop)]
 struct Checks {
     offered: AtomicU64,
     noupdate: AtomicU64,
     internal: AtomicU64,
+}
+
+// Written out, so that no caller proves again how each part is dropped.
+impl Drop for Checks {
+    fn drop(self) {
+        let Checks {
+            offered: _,
+            noupdate: _,
+            internal: _,
+        } = self;
+    }
 }
 
 // The bytes that were offered from a mirror, by the kinds of payloads.
@@ -34,7 +44,6 @@ struct Offered {
 }
 
 // The cells that are there once.
-#[derive(Drop)]
 struct Single {
     unknown: AtomicU64,
     uncounted: AtomicU64,
@@ -43,15 +52,39 @@ struct Single {
     failures: AtomicU64,
 }
 
+// Written out, so that no caller proves again how each part is dropped.
+impl Drop for Single {
+    fn drop(self) {
+        let Single {
+            unknown: _,
+            uncounted: _,
+            idle: _,
+            active: _,
+            failures: _,
+        } = self;
+    }
+}
+
 /// What one worker counts, which any thread may read.
 ///
 /// A count begins again at 0 after 2^64 - 1.
-#[derive(Drop)]
 pub struct Tally {
     replies: Vec<AtomicU64>,
     mirrors: Vec<Offered>,
     apps: Vec<Vec<Checks>>,
     single: Single,
+}
+
+// Written out, so that no caller proves again how each part is dropped.
+impl Drop for Tally {
+    fn drop(self) {
+        let Tally {
+            replies: _,
+            mirrors: _,
+            apps: _,
+            single: _,
+        } = self;
+    }
 }
 
 impl Model for Tally {

@@ -31,7 +31,6 @@ pub struct MirrorTotals {
 }
 
 /// What all workers of a server counted.
-#[derive(Drop)]
 pub struct Totals {
     /// The replies, by the positions of their statuses in `CODES`.
     pub replies: Items<u64>,
@@ -49,6 +48,22 @@ pub struct Totals {
     pub active: u64,
     /// The downloads that were cut off as the package is missing or isn't the declared one.
     pub failures: u64,
+}
+
+// Written out, so that no caller proves again how each part is dropped.
+impl Drop for Totals {
+    fn drop(self) {
+        let Totals {
+            replies: _,
+            checks: _,
+            unknown: _,
+            uncounted: _,
+            bytes: _,
+            idle: _,
+            active: _,
+            failures: _,
+        } = self;
+    }
 }
 
 impl Totals {

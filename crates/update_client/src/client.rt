@@ -11,7 +11,6 @@ use std::marker::Model;
 use values::{Items, Text};
 
 /// An installed app, and what its client says when it asks for an update.
-#[derive(Drop)]
 pub struct Client {
     app: Text,
     version: Text,
@@ -21,6 +20,22 @@ pub struct Client {
     rollback: bool,
     session: Text,
     prefix: Option<Text>,
+}
+
+// Written out, so that no caller proves again how each part is dropped.
+impl Drop for Client {
+    fn drop(self) {
+        let Client {
+            app: _,
+            version: _,
+            fp: _,
+            cohort: _,
+            hint: _,
+            rollback: _,
+            session: _,
+            prefix: _,
+        } = self;
+    }
 }
 
 impl Model for Client {
@@ -91,10 +106,9 @@ impl Client {
     pub fn with_prefix(self, prefix: Text) -> Client
         ensures { result ≡ record self { prefix = prefix } }
     {
-        Client {
-            prefix: Some(prefix),
-            ..self
-        }
+        let mut client = self;
+        client.prefix = Some(prefix);
+        client
     }
 
     pub(crate) fn app(&self) -> &str

@@ -25,11 +25,21 @@ pub const MAX_REPLY: u64 = 1_048_576;
 const PORTION: usize = 65536;
 
 // A download over its connection, and how many bytes it has brought since its time limit began.
-#[derive(Drop)]
 struct Download {
     stream: TcpStream,
     deadline: Deadline,
     brought: usize,
+}
+
+// Written out, so that no caller proves again how each part is dropped.
+impl Drop for Download {
+    fn drop(self) {
+        let Download {
+            stream: _,
+            deadline: _,
+            brought: _,
+        } = self;
+    }
 }
 
 impl Download {

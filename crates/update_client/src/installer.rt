@@ -5,7 +5,6 @@ use std::alloc::AllocError;
 use values::{Failed, Text};
 
 /// One accepted offer.
-#[derive(Drop)]
 pub struct Step {
     /// Whether the file is a differential.
     pub diff: bool,
@@ -15,6 +14,18 @@ pub struct Step {
     pub fp: Text,
     /// The length of the file in bytes.
     pub bytes: u64,
+}
+
+// Written out, so that no caller proves again how each part is dropped.
+impl Drop for Step {
+    fn drop(self) {
+        let Step {
+            diff: _,
+            version: _,
+            fp: _,
+            bytes: _,
+        } = self;
+    }
 }
 
 impl Clone for Step {

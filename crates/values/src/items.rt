@@ -6,9 +6,16 @@ use std::alloc::{AllocError, Global};
 use std::marker::Model;
 
 /// Items in order, which contracts see as their list.
-#[derive(Clone, Debug, Drop)]
+#[derive(Clone, Debug)]
 pub struct Items<T> {
     items: Vec<T>,
+}
+
+// Written out, so that no caller proves again how each part is dropped.
+impl<T: Drop> Drop for Items<T> {
+    fn drop(self) {
+        let Items { items: _ } = self;
+    }
 }
 
 impl<T> Model for Items<T> {

@@ -9,9 +9,15 @@ use std::sync::Arc;
 ///
 /// A clone copies no item. The first change of a list that has clones copies its items, and leaves the
 /// clones as they are.
-#[derive(Drop)]
 pub struct SharedItems<T> {
     items: Arc<Vec<T>>,
+}
+
+// Written out, so that no caller proves again how each part is dropped.
+impl<T: Drop> Drop for SharedItems<T> {
+    fn drop(self) {
+        let SharedItems { items: _ } = self;
+    }
 }
 
 impl<T> Model for SharedItems<T> {

@@ -16,13 +16,23 @@ use std::sync::{Arc, Wait};
 use streams::WriteWhole;
 
 /// What the senders of a log send to.
-#[derive(Drop)]
 pub struct LogWriter {
     pub(crate) rings: Vec<Consumer<u8>>,
     pub(crate) room: Vec<u8>,
     pub(crate) signal: Arc<Signal, Global>,
     // room for all that is in a ring
     ghost roomy: { All (λ ring. consumer_capacity ring ≤ length room.items) rings.items },
+}
+
+// Written out, so that no caller proves again how each part is dropped.
+impl Drop for LogWriter {
+    fn drop(self) {
+        let LogWriter {
+            rings: _,
+            room: _,
+            signal: _,
+        } = self;
+    }
 }
 
 impl Model for LogWriter {

@@ -20,7 +20,7 @@ use values::Text;
 const MAX_SHARE: u64 = 1000;
 
 /// Sets the target and the held target of a cohort; both are replaced.
-#[derive(Clone, Drop)]
+#[derive(Clone)]
 pub struct SetTarget {
     /// The app's identifier, in any case.
     pub app: Text,
@@ -32,8 +32,20 @@ pub struct SetTarget {
     pub held: Option<Text>,
 }
 
+// Written out, so that no caller proves again how each part is dropped.
+impl Drop for SetTarget {
+    fn drop(self) {
+        let SetTarget {
+            app: _,
+            cohort: _,
+            target: _,
+            held: _,
+        } = self;
+    }
+}
+
 /// Sets how many of 1000 clients of a cohort have its target.
-#[derive(Clone, Drop)]
+#[derive(Clone)]
 pub struct SetShare {
     /// The app's identifier, in any case.
     pub app: Text,
@@ -43,8 +55,19 @@ pub struct SetShare {
     pub share: u64,
 }
 
+// Written out, so that no caller proves again how each part is dropped.
+impl Drop for SetShare {
+    fn drop(self) {
+        let SetShare {
+            app: _,
+            cohort: _,
+            share: _,
+        } = self;
+    }
+}
+
 /// Sets whether a cohort's clients may be downgraded to its target.
-#[derive(Clone, Drop)]
+#[derive(Clone)]
 pub struct SetRollback {
     /// The app's identifier, in any case.
     pub app: Text,
@@ -54,8 +77,19 @@ pub struct SetRollback {
     pub on: bool,
 }
 
+// Written out, so that no caller proves again how each part is dropped.
+impl Drop for SetRollback {
+    fn drop(self) {
+        let SetRollback {
+            app: _,
+            cohort: _,
+            on: _,
+        } = self;
+    }
+}
+
 /// Sets whether a client's hint may name a cohort.
-#[derive(Clone, Drop)]
+#[derive(Clone)]
 pub struct SetOpen {
     /// The app's identifier, in any case.
     pub app: Text,
@@ -63,6 +97,17 @@ pub struct SetOpen {
     pub cohort: Text,
     /// Whether a hint may name it from then on.
     pub on: bool,
+}
+
+// Written out, so that no caller proves again how each part is dropped.
+impl Drop for SetOpen {
+    fn drop(self) {
+        let SetOpen {
+            app: _,
+            cohort: _,
+            on: _,
+        } = self;
+    }
 }
 
 /// What one edit sets of a cohort.

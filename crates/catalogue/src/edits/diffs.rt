@@ -14,7 +14,7 @@ use values::Text;
 const MAX_DIFFS: usize = 16384;
 
 /// Adds a differential package to an app, from one of its releases to a higher one.
-#[derive(Clone, Drop)]
+#[derive(Clone)]
 pub struct AddDiff {
     /// The app's identifier, in any case.
     pub app: Text,
@@ -28,6 +28,20 @@ pub struct AddDiff {
     pub size: u64,
     /// The SHA-256 of its package: 64 lower-case hexadecimal digits.
     pub sha256: Text,
+}
+
+// Written out, so that no caller proves again how each part is dropped.
+impl Drop for AddDiff {
+    fn drop(self) {
+        let AddDiff {
+            app: _,
+            from: _,
+            to: _,
+            name: _,
+            size: _,
+            sha256: _,
+        } = self;
+    }
 }
 
 impl AddDiff {

@@ -21,7 +21,7 @@ use std::alloc::AllocError;
 use values::{Items, Text};
 
 /// Sets whether a release is a stepping stone, which no package may jump over.
-#[derive(Clone, Drop)]
+#[derive(Clone)]
 pub struct SetStone {
     /// The app's identifier, in any case.
     pub app: Text,
@@ -31,8 +31,19 @@ pub struct SetStone {
     pub on: bool,
 }
 
+// Written out, so that no caller proves again how each part is dropped.
+impl Drop for SetStone {
+    fn drop(self) {
+        let SetStone {
+            app: _,
+            version: _,
+            on: _,
+        } = self;
+    }
+}
+
 /// Sets whether a release is withdrawn, so that it is offered to nobody.
-#[derive(Clone, Drop)]
+#[derive(Clone)]
 pub struct SetWithdrawn {
     /// The app's identifier, in any case.
     pub app: Text,
@@ -42,8 +53,19 @@ pub struct SetWithdrawn {
     pub on: bool,
 }
 
+// Written out, so that no caller proves again how each part is dropped.
+impl Drop for SetWithdrawn {
+    fn drop(self) {
+        let SetWithdrawn {
+            app: _,
+            version: _,
+            on: _,
+        } = self;
+    }
+}
+
 /// Sets the cohorts that a release is open to.
-#[derive(Clone, Drop)]
+#[derive(Clone)]
 pub struct SetAudience {
     /// The app's identifier, in any case.
     pub app: Text,
@@ -54,8 +76,19 @@ pub struct SetAudience {
     pub cohorts: Option<Items<Text>>,
 }
 
+// Written out, so that no caller proves again how each part is dropped.
+impl Drop for SetAudience {
+    fn drop(self) {
+        let SetAudience {
+            app: _,
+            version: _,
+            cohorts: _,
+        } = self;
+    }
+}
+
 /// Sets the floor of a release: the lowest version that may take it.
-#[derive(Clone, Drop)]
+#[derive(Clone)]
 pub struct SetFloor {
     /// The app's identifier, in any case.
     pub app: Text,
@@ -64,6 +97,17 @@ pub struct SetFloor {
     /// The lowest version that may take it from then on; `0` if any may. No release needs to have this
     /// version, and it may be above the release's own.
     pub floor: Text,
+}
+
+// Written out, so that no caller proves again how each part is dropped.
+impl Drop for SetFloor {
+    fn drop(self) {
+        let SetFloor {
+            app: _,
+            version: _,
+            floor: _,
+        } = self;
+    }
 }
 
 /// What one edit sets of a release.

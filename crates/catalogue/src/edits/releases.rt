@@ -14,7 +14,7 @@ use values::Text;
 const MAX_RELEASES: usize = 512;
 
 /// Adds a release to an app.
-#[derive(Clone, Drop)]
+#[derive(Clone)]
 pub struct AddRelease {
     /// The app's identifier, in any case.
     pub app: Text,
@@ -27,6 +27,19 @@ pub struct AddRelease {
     pub size: u64,
     /// The SHA-256 of its full package: 64 lower-case hexadecimal digits.
     pub sha256: Text,
+}
+
+// Written out, so that no caller proves again how each part is dropped.
+impl Drop for AddRelease {
+    fn drop(self) {
+        let AddRelease {
+            app: _,
+            version: _,
+            name: _,
+            size: _,
+            sha256: _,
+        } = self;
+    }
 }
 
 impl AddRelease {

@@ -11,10 +11,16 @@ use toml::{Table, Value};
 use values::{Items, Text};
 
 /// A table that is filled; contracts see its keys with their values as `filled`.
-#[derive(Drop)]
 pub(crate) struct TableWriter {
     alloc: Global,
     table: Table,
+}
+
+// Written out, so that no caller proves again how each part is dropped.
+impl Drop for TableWriter {
+    fn drop(self) {
+        let TableWriter { alloc: _, table: _ } = self;
+    }
 }
 
 fn string_values(alloc: Global, texts: &[Text]) -> Result<Vec<Value>, AllocError>

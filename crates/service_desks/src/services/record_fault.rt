@@ -9,7 +9,7 @@ use std::error::Error;
 use std::fmt;
 
 /// Why a record begins nothing, or doesn't follow those before it.
-#[derive(Debug, Drop)]
+#[derive(Debug)]
 pub enum RecordFault {
     /// The first record is no profile.
     NoProfile,
@@ -25,6 +25,21 @@ pub enum RecordFault {
     HistoryFull,
     /// It is no raise of a budget that may be made.
     Raise,
+}
+
+// Written out, so that no caller proves again how each part is dropped.
+impl Drop for RecordFault {
+    fn drop(self) {
+        match self {
+            RecordFault::NoProfile => {}
+            RecordFault::SecondProfile => {}
+            RecordFault::Profile(_) => {}
+            RecordFault::Script(_) => {}
+            RecordFault::Refused(_) => {}
+            RecordFault::HistoryFull => {}
+            RecordFault::Raise => {}
+        }
+    }
 }
 
 impl fmt::Display for RecordFault {
