@@ -56,6 +56,18 @@ ask_data ask = object
     (member (codes "version") (string ask.version)
     no_members))))))))
 
+-- the members, with what is asked for one app
+abbrev pub with_ask : AppAsk → Members → Members
+with_ask ask members =
+    put (codes "version") (string ask.version)
+    (with_some (codes "updatecheck") (option_map check_data ask.check)
+    (with_some (codes "ping") (ping_data ask.ping)
+    (put (codes "packages") (packages_data ask.fp)
+    (with_some (codes "event") (events_data ask.events)
+    (put (codes "cohorthint") (string ask.hint)
+    (put (codes "cohort") (string ask.cohort)
+    (put (codes "appid") (string ask.appid) members)))))))
+
 -- what is asked for the apps, in order
 abbrev pub asks_data : List AppAsk → Data
 asks_data asks = array (items_of (map ask_data asks))

@@ -11,7 +11,10 @@ pub struct Request {
 // Written out, so that no caller proves again how each part is dropped.
 impl Drop for Request {
     fn drop(self) {
-        let Request { session: _, apps: _ } = self;
+        let Request {
+            session: _,
+            apps: _,
+        } = self;
     }
 }
 
@@ -64,6 +67,10 @@ pub struct Check {
 // Written out, so that no caller proves again how each part is dropped.
 impl Drop for Check {
     fn drop(self) {
-        let Check { disabled: _, rollback: _, prefix: _ } = self;
+        let Check {
+            disabled: _,
+            rollback: _,
+            prefix: _,
+        } = self;
     }
 }

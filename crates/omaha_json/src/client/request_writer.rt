@@ -1,10 +1,10 @@
 //! Writes a request: from its record to its bytes.
 
-ghost use Rattle.std.specs.Prelude.{◌≡◌, IfOk, OnOk, option_map};
+ghost use Rattle.std.specs.Prelude.{◌≡◌, IfOk, OnOk, codes, option_map};
 ghost use Rattle.serde_json.specs.Data.{string, put as with_member};
 ghost use Rattle.serde_json.specs.View.{view, members_view};
 ghost use Rattle.omaha_json.specs.RequestReading.{request_of_bytes};
-ghost use Rattle.omaha_json.specs.RequestWriting.{IsWritable, blanks, events_data, ping_data, check_data, packages_data, ask_data, asks_data, request_data, request_bytes, with_some};
+ghost use Rattle.omaha_json.specs.RequestWriting.{IsWritable, blanks, events_data, ping_data, check_data, packages_data, ask_data, asks_data, request_data, request_bytes, with_ask, with_some};
 
 use crate::request::{AppAsk, Check, Request};
 use serde_json::{Map, Value, json, put};
@@ -24,21 +24,6 @@ fn put_string(
     Ok(())
 }
 
-fn put_some(
-    members: &mut Map<String, Value>,
-    alloc: Global,
-    name: &str,
-    value: Option<Value>,
-) -> Result<(), AllocError>
-    ensures { OnOk result (members_view members.new.entries
-        ≡ with_some name.now (option_map view value) (members_view members.old.entries)) }
-{
-    if let Some(value) = value {
-        put(members, alloc, name, value)?;
-    }
-    Ok(())
-}
-
 fn blank_values(alloc: Global, count: usize) -> Result<Value, AllocError>
     ensures { IfOk result (λ json. view json ≡ blanks count) }
 {
@@ -49,22 +34,32 @@ fn blank_values(alloc: Global, count: usize) -> Result<Value, AllocError>
     Ok(Value::Array(blanks))
 }
 
-fn events_value(alloc: Global, events: usize) -> Result<Option<Value>, AllocError>
-    ensures { IfOk result (λ json. option_map view json ≡ events_data events) }
+fn put_events(
+    members: &mut Map<String, Value>,
+    alloc: Global,
+    events: usize,
+) -> Result<(), AllocError>
+    ensures { OnOk result (members_view members.new.entries
+        ≡ with_some (codes "event") (events_data events) (members_view members.old.entries)) }
 {
     if events == 0 {
-        return Ok(None);
+        return Ok(());
     }
-    Ok(Some(blank_values(alloc, events)?))
+    let blanks = blank_values(alloc, events)?;
+    put(members, alloc, "event", blanks)?;
+    Ok(())
 }
 
-fn ping_value(alloc: Global, sent: bool) -> Result<Option<Value>, AllocError>
-    ensures { IfOk result (λ json. option_map view json ≡ ping_data sent) }
+fn put_ping(members: &mut Map<String, Value>, alloc: Global, sent: bool) -> Result<(), AllocError>
+    ensures { OnOk result (members_view members.new.entries
+        ≡ with_some (codes "ping") (ping_data sent) (members_view members.old.entries)) }
 {
     if !sent {
-        return Ok(None);
+        return Ok(());
     }
-    Ok(Some(json!(in alloc; {})?))
+    let ping = json!(in alloc; {})?;
+    put(members, alloc, "ping", ping)?;
+    Ok(())
 }
 
 fn check_value(alloc: Global, check: &Check) -> Result<Value, AllocError>
@@ -77,38 +72,50 @@ fn check_value(alloc: Global, check: &Check) -> Result<Value, AllocError>
     })
 }
 
-fn optional_check(alloc: Global, check: Option<&Check>) -> Result<Option<Value>, AllocError>
-    ensures { IfOk result (λ json. option_map view json
-        ≡ option_map check_data (option_map (λ check. check.now) check.entry)) }
+fn put_check(
+    members: &mut Map<String, Value>,
+    alloc: Global,
+    check: Option<&Check>,
+) -> Result<(), AllocError>
+    ensures { OnOk result (members_view members.new.entries
+        ≡ with_some (codes "updatecheck") (option_map check_data (option_map (λ check. check.now) check.entry))
+        (members_view members.old.entries)) }
 {
-    match check {
-        Some(check) => Ok(Some(check_value(alloc, check)?)),
-        None => Ok(None),
-    }
+    let Some(check) = check else {
+        return Ok(());
+    };
+    let check = check_value(alloc, check)?;
+    put(members, alloc, "updatecheck", check)?;
+    Ok(())
 }
 
-fn packages_value(alloc: Global, fp: &str) -> Result<Value, AllocError>
-    ensures { IfOk result (λ json. view json ≡ packages_data fp.now) }
+fn put_packages(members: &mut Map<String, Value>, alloc: Global, fp: &str) -> Result<(), AllocError>
+    ensures { OnOk result (members_view members.new.entries
+        ≡ with_member (codes "packages") (packages_data fp.now) (members_view members.old.entries)) }
 {
-    json!(in alloc; { "package": [{ "fp": fp }] })
+    let packages = json!(in alloc; { "package": [{ "fp": fp }] })?;
+    put(members, alloc, "packages", packages)?;
+    Ok(())
+}
+
+fn put_ask(members: &mut Map<String, Value>, alloc: Global, ask: &AppAsk) -> Result<(), AllocError>
+    ensures { OnOk result (members_view members.new.entries ≡ with_ask ask.now (members_view members.old.entries)) }
+{
+    put_string(members, alloc, "appid", ask.appid.as_str())?;
+    put_string(members, alloc, "cohort", ask.cohort.as_str())?;
+    put_string(members, alloc, "cohorthint", ask.hint.as_str())?;
+    put_events(members, alloc, ask.events)?;
+    put_packages(members, alloc, ask.fp.as_str())?;
+    put_ping(members, alloc, ask.ping)?;
+    put_check(members, alloc, ask.check.as_ref())?;
+    put_string(members, alloc, "version", ask.version.as_str())
 }
 
 fn ask_value(alloc: Global, ask: &AppAsk) -> Result<Value, AllocError>
     ensures { IfOk result (λ json. view json ≡ ask_data ask.now) }
 {
-    let event = events_value(alloc, ask.events)?;
-    let packages = packages_value(alloc, ask.fp.as_str())?;
-    let ping = ping_value(alloc, ask.ping)?;
-    let check = optional_check(alloc, ask.check.as_ref())?;
     let mut app = Map::new(alloc);
-    put_string(&mut app, alloc, "appid", ask.appid.as_str())?;
-    put_string(&mut app, alloc, "cohort", ask.cohort.as_str())?;
-    put_string(&mut app, alloc, "cohorthint", ask.hint.as_str())?;
-    put_some(&mut app, alloc, "event", event)?;
-    put(&mut app, alloc, "packages", packages)?;
-    put_some(&mut app, alloc, "ping", ping)?;
-    put_some(&mut app, alloc, "updatecheck", check)?;
-    put_string(&mut app, alloc, "version", ask.version.as_str())?;
+    put_ask(&mut app, alloc, ask)?;
     Ok(Value::Object(app))
 }
 
