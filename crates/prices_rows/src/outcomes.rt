@@ -14,7 +14,7 @@ use std::alloc::{AllocError, Global};
 use values::ReadError;
 
 fn push_fault(words: &mut String, fault: Fault) -> Result<(), AllocError> {
-    match fault {
+    match &fault {
         Fault::BadLine { n } => write!(words, "P1 {n}"),
         Fault::NotOfThisGraph { n } => write!(words, "P2 {n}"),
         other => write!(words, "{other}"),

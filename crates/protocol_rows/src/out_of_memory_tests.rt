@@ -12,6 +12,7 @@ use omaha_json::{
     write_request,
 };
 use std::alloc::{AllocError, Global};
+use std::mem;
 use update_client::{Client, Fault, Walk};
 use values::{Items, ReadError, Text};
 
@@ -95,8 +96,9 @@ const PING: &str =
     r#"{"request":{"app":[{"appid":"demo","cohort":"","cohorthint":"be\"ta","event":[{},{}],"packages":{"package":[{"fp":""}]},"ping":{},"version":"1.0"}],"protocol":"3.1","sessionid":"abc"}}"#;
 
 fn first_ask(alloc: Global, request: &str) -> Option<AppAsk> {
-    let request = read_request(alloc, request.as_bytes()).ok()?;
-    request.apps.into_vec().pop()
+    let mut request = read_request(alloc, request.as_bytes()).ok()?;
+    let apps = mem::replace(&mut request.apps, Items::empty(alloc));
+    apps.into_vec().pop()
 }
 
 fn bytes_of(alloc: Global, ask: AppAsk) -> Option<Vec<u8>>

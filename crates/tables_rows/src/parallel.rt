@@ -121,9 +121,9 @@ fn with_row(table: &Certified, index: usize, row: Row) -> Option<Prices>
     ensures key { IfSome result (λ prices. prices.key ≡ table.now.net.key) }
     ensures sized { IfSome result (λ prices. length prices.rows ≡ length table.now.rows) }
 {
-    let Prices { key, mut rows } = table.copy().ok()?.into_prices();
-    match rows.replace(index, row) {
-        Ok(()) => Some(Prices { key, rows }),
+    let mut prices = table.copy().ok()?.into_prices();
+    match prices.rows.replace(index, row) {
+        Ok(()) => Some(prices),
         Err(_) => None,
     }
 }
