@@ -6,6 +6,7 @@ ghost use Rattle.mirror_ledger.specs.Order.{HasRoomAt, IsAlone, IsFirstWithRoom}
 
 use crate::asks::AskList;
 use crate::book::{Book, BudgetName, Share};
+use crate::parts::Parts;
 use catalogue::Mirror;
 use std::marker::Model;
 use std::sync::{Mutex, Wait};
@@ -14,7 +15,6 @@ use std::sync::{Mutex, Wait};
 ///
 /// Each book is under a lock of its own. A place without a mirror has a book of the first budget 0, which
 /// nothing asks.
-#[derive(Drop)]
 pub struct Books<A: BudgetName, B: BudgetName, C: BudgetName, D: BudgetName> {
     pub(crate) given: Vec<Mirror>,
     /// The book of the first mirror.
@@ -25,6 +25,19 @@ pub struct Books<A: BudgetName, B: BudgetName, C: BudgetName, D: BudgetName> {
     pub third: Mutex<Book<C>>,
     /// The book of the fourth mirror.
     pub fourth: Mutex<Book<D>>,
+}
+
+// Written out, so that no caller proves again how each part is dropped.
+impl<A: BudgetName, B: BudgetName, C: BudgetName, D: BudgetName> Drop for Books<A, B, C, D> {
+    fn drop(self) {
+        let Books {
+            given: _,
+            first: _,
+            second: _,
+            third: _,
+            fourth: _,
+        } = self;
+    }
 }
 
 impl<A: BudgetName, B: BudgetName, C: BudgetName, D: BudgetName> Model for Books<A, B, C, D> {
@@ -40,7 +53,6 @@ impl<A: BudgetName, B: BudgetName, C: BudgetName, D: BudgetName> Model for Books
 }
 
 /// A worker's shares of the books of all mirrors, and its asks.
-#[derive(Drop)]
 pub struct Shares<A: BudgetName, B: BudgetName, C: BudgetName, D: BudgetName> {
     /// What the first mirror granted to the worker.
     pub first: Share<A>,
@@ -52,6 +64,19 @@ pub struct Shares<A: BudgetName, B: BudgetName, C: BudgetName, D: BudgetName> {
     pub fourth: Share<D>,
     /// What the worker asked for, and the index of the mirror that granted it; for contracts alone.
     pub asks: AskList,
+}
+
+// Written out, so that no caller proves again how each part is dropped.
+impl<A: BudgetName, B: BudgetName, C: BudgetName, D: BudgetName> Drop for Shares<A, B, C, D> {
+    fn drop(self) {
+        let Shares {
+            first: _,
+            second: _,
+            third: _,
+            fourth: _,
+            asks: _,
+        } = self;
+    }
 }
 
 impl<A: BudgetName, B: BudgetName, C: BudgetName, D: BudgetName> Books<A, B, C, D> {
@@ -144,5 +169,27 @@ impl<A: BudgetName, B: BudgetName, C: BudgetName, D: BudgetName> Shares<A, B, C,
         let granted = self.first_with_room(rt, books, bytes);
         self.asks.push(bytes, granted);
         granted
+    }
+
+    /// Gives the parts of the ledgers.
+    pub(crate) fn into_parts(self) -> Parts<A, B, C, D>
+        ensures first { (result.first.parts ≡ 1) × (result.first.amount ≡ self.first) }
+        ensures second { (result.second.parts ≡ 1) × (result.second.amount ≡ self.second) }
+        ensures third { (result.third.parts ≡ 1) × (result.third.amount ≡ self.third) }
+        ensures fourth { (result.fourth.parts ≡ 1) × (result.fourth.amount ≡ self.fourth) }
+    {
+        let Shares {
+            first,
+            second,
+            third,
+            fourth,
+            asks: _,
+        } = self;
+        Parts {
+            first: first.into_mark(),
+            second: second.into_mark(),
+            third: third.into_mark(),
+            fourth: fourth.into_mark(),
+        }
     }
 }

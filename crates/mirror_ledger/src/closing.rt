@@ -1,53 +1,17 @@
 //! How books are closed.
 
-ghost use Rattle.std.specs.Prelude.{◌≡◌, ℕ, ◌+◌, ◌<◌, ◌≤◌, IfOk, length, map, slice_index, sum_by, vec_len};
+ghost use Rattle.std.specs.Prelude.{◌≡◌, ℕ, ◌<◌, ◌≤◌, ◌∷◌, [], IfOk, length, map, slice_index, sum_by, vec_len};
 ghost use Rattle.mirror_ledger.specs.Named.{budget_at, totals_of};
 ghost use Rattle.mirror_ledger.specs.Tills.{granted_by};
 
-use crate::book::{BudgetName, Share};
+use crate::book::{Book, BudgetName, Raiser};
 use crate::books::{Books, Shares};
+use crate::parts::Parts;
 use crate::raisers::Raisers;
 use crate::till::Hand;
 use catalogue::Mirror;
 use std::alloc::{AllocError, Global};
-use std::sync::{Wait, ledger};
-
-// The parts of the four ledgers that came back.
-#[derive(Drop)]
-pub(crate) struct Parts<A: BudgetName, B: BudgetName, C: BudgetName, D: BudgetName> {
-    first: ledger::Share<A>,
-    second: ledger::Share<B>,
-    third: ledger::Share<C>,
-    fourth: ledger::Share<D>,
-}
-
-impl<A: BudgetName, B: BudgetName, C: BudgetName, D: BudgetName> Parts<A, B, C, D> {
-    fn of(shares: Shares<A, B, C, D>) -> Parts<A, B, C, D>
-        ensures first { (result.first.parts ≡ 1) × (result.first.amount ≡ shares.first) }
-        ensures second { (result.second.parts ≡ 1) × (result.second.amount ≡ shares.second) }
-        ensures third { (result.third.parts ≡ 1) × (result.third.amount ≡ shares.third) }
-        ensures fourth { (result.fourth.parts ≡ 1) × (result.fourth.amount ≡ shares.fourth) }
-    {
-        Parts {
-            first: shares.first.into_mark(),
-            second: shares.second.into_mark(),
-            third: shares.third.into_mark(),
-            fourth: shares.fourth.into_mark(),
-        }
-    }
-
-    fn merge(&mut self, other: Parts<A, B, C, D>)
-        ensures first { (self.new.first.parts ≡ self.old.first.parts + other.first.parts) × (self.new.first.amount ≡ self.old.first.amount + other.first.amount) }
-        ensures second { (self.new.second.parts ≡ self.old.second.parts + other.second.parts) × (self.new.second.amount ≡ self.old.second.amount + other.second.amount) }
-        ensures third { (self.new.third.parts ≡ self.old.third.parts + other.third.parts) × (self.new.third.amount ≡ self.old.third.amount + other.third.amount) }
-        ensures fourth { (self.new.fourth.parts ≡ self.old.fourth.parts + other.fourth.parts) × (self.new.fourth.amount ≡ self.old.fourth.amount + other.fourth.amount) }
-    {
-        self.first.merge(other.first);
-        self.second.merge(other.second);
-        self.third.merge(other.third);
-        self.fourth.merge(other.fourth);
-    }
-}
+use std::sync::{Mutex, Wait, ledger};
 
 fn gathered<A: BudgetName, B: BudgetName, C: BudgetName, D: BudgetName>(
     shares: Vec<Shares<A, B, C, D>>,
@@ -62,9 +26,9 @@ fn gathered<A: BudgetName, B: BudgetName, C: BudgetName, D: BudgetName>(
     let Some(last) = shares.pop() else {
         unreachable!()
     };
-    let mut parts = Parts::of(last);
+    let mut parts = last.into_parts();
     while let Some(next) = shares.pop() {
-        parts.merge(Parts::of(next));
+        next.into_parts().add_to(&mut parts);
     }
     parts
 }
@@ -83,11 +47,50 @@ pub(crate) fn gather_tills<A: BudgetName, B: BudgetName, C: BudgetName, D: Budge
     let Some(last) = tills.pop() else {
         unreachable!()
     };
-    let mut parts = Parts::of(last.end());
+    let mut parts = last.end().into_parts();
     while let Some(next) = tills.pop() {
-        parts.merge(Parts::of(next.end()));
+        next.end().into_parts().add_to(&mut parts);
     }
     parts
+}
+
+// The total of one mirror, which all parts of its ledger came to.
+fn total_of<P: BudgetName, R: Wait>(
+    rt: &R,
+    book: &Mutex<Book<P>>,
+    all: &mut ledger::Share<P>,
+    raiser: &mut Raiser<P>,
+) -> u64
+    requires { all.old.parts ≡ P.parts }
+    ensures total { result ≡ all.old.amount }
+    ensures within { result ≤ raiser.old }
+    ensures raiser { raiser.new ≡ raiser.old }
+{
+    book.lock(rt).gather(all, raiser)
+}
+
+// The totals of the four books.
+fn all_totals<A: BudgetName, B: BudgetName, C: BudgetName, D: BudgetName, R: Wait>(
+    rt: &R,
+    books: &Books<A, B, C, D>,
+    parts: Parts<A, B, C, D>,
+    raisers: &mut Raisers<A, B, C, D>,
+) -> [u64; 4]
+    requires first { parts.first.parts ≡ A.parts }
+    requires second { parts.second.parts ≡ B.parts }
+    requires third { parts.third.parts ≡ C.parts }
+    requires fourth { parts.fourth.parts ≡ D.parts }
+    ensures totals { result ≡ parts.first.amount ∷ parts.second.amount ∷ parts.third.amount ∷ parts.fourth.amount ∷ [] }
+    ensures within { (index : ℕ) → index < length raisers.old → slice_index result index ≤ budget_at raisers.old index }
+    ensures same { raisers.new ≡ raisers.old }
+{
+    let mut parts = parts;
+    [
+        total_of(rt, &books.first, &mut parts.first, &mut raisers.first),
+        total_of(rt, &books.second, &mut parts.second, &mut raisers.second),
+        total_of(rt, &books.third, &mut parts.third, &mut raisers.third),
+        total_of(rt, &books.fourth, &mut parts.fourth, &mut raisers.fourth),
+    ]
 }
 
 /// Closes the books by all parts of their ledgers and by their raisers, and returns each mirror's total in bytes, and the
@@ -109,22 +112,10 @@ pub(crate) fn close_parts<A: BudgetName, B: BudgetName, C: BudgetName, D: Budget
     ensures within { IfOk result (λ closed.
         (index : ℕ) → index < length closed.1.items → slice_index closed.0.items index ≤ budget_at closed.1.items index) }
 {
-    let mut parts = parts;
-    let Raisers {
-        mirrors,
-        mut first,
-        mut second,
-        mut third,
-        mut fourth,
-    } = raisers;
-    let totals = [
-        books.first.lock(rt).gather(&mut parts.first, &mut first),
-        books.second.lock(rt).gather(&mut parts.second, &mut second),
-        books.third.lock(rt).gather(&mut parts.third, &mut third),
-        books.fourth.lock(rt).gather(&mut parts.fourth, &mut fourth),
-    ];
-    let granted = Vec::from_slice(alloc, &totals[..mirrors.len()])?;
-    Ok((granted, mirrors))
+    let mut raisers = raisers;
+    let totals = all_totals(rt, books, parts, &mut raisers);
+    let granted = Vec::from_slice(alloc, &totals[..raisers.mirrors.len()])?;
+    Ok((granted, raisers.into_mirrors()))
 }
 
 // rule: Total of a mirror

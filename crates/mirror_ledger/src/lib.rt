@@ -21,6 +21,7 @@ mod budgets;
 mod closing;
 mod job;
 mod opening;
+mod parts;
 mod raise_error;
 mod raisers;
 mod rejected;

@@ -1,17 +1,17 @@
 //! How books are opened.
 
-ghost use Rattle.std.specs.Prelude.{◌≡◌, ◌+◌, ◌<◌, ◌≤◌, ◌^◌, All, IfOk, true, vec_len};
+ghost use Rattle.std.specs.Prelude.{◌≡◌, ◌<◌, ◌≤◌, ◌^◌, All, IfOk, true, vec_len};
 ghost use Rattle.mirror_ledger.specs.Named.{are_bounded, budget_at, IsNamed};
 ghost use Rattle.mirror_ledger.specs.Asks.{AreUnused};
 
-use crate::asks::AskList;
-use crate::book::{Book, BudgetName, Share};
+use crate::book::{Book, BudgetName};
 use crate::books::{Books, Shares};
+use crate::parts::Parts;
 use crate::raisers::{Raisers, copied};
 use catalogue::Mirror;
 use std::alloc::{AllocError, Global};
 use std::sync::ledger::Blank;
-use std::sync::{Mutex, Wait, ledger};
+use std::sync::{Mutex, Wait};
 
 /// Four new ledgers, one for the mirror at each index, and four of what the budgets are raised by.
 #[derive(Drop)]
@@ -47,37 +47,6 @@ impl Blanks {
     }
 }
 
-// The parts of the four ledgers that no worker has.
-#[derive(Drop)]
-struct Rest<A: BudgetName, B: BudgetName, C: BudgetName, D: BudgetName> {
-    first: ledger::Share<A>,
-    second: ledger::Share<B>,
-    third: ledger::Share<C>,
-    fourth: ledger::Share<D>,
-}
-
-impl<A: BudgetName, B: BudgetName, C: BudgetName, D: BudgetName> Rest<A, B, C, D> {
-    fn split_off(&mut self) -> Shares<A, B, C, D>
-        requires first { (0 < self.old.first.parts) × (self.old.first.amount ≡ 0) }
-        requires second { (0 < self.old.second.parts) × (self.old.second.amount ≡ 0) }
-        requires third { (0 < self.old.third.parts) × (self.old.third.amount ≡ 0) }
-        requires fourth { (0 < self.old.fourth.parts) × (self.old.fourth.amount ≡ 0) }
-        ensures unused { AreUnused result.first result.second result.third result.fourth result.asks }
-        ensures first { (self.new.first.parts + 1 ≡ self.old.first.parts) × (self.new.first.amount ≡ 0) }
-        ensures second { (self.new.second.parts + 1 ≡ self.old.second.parts) × (self.new.second.amount ≡ 0) }
-        ensures third { (self.new.third.parts + 1 ≡ self.old.third.parts) × (self.new.third.amount ≡ 0) }
-        ensures fourth { (self.new.fourth.parts + 1 ≡ self.old.fourth.parts) × (self.new.fourth.amount ≡ 0) }
-    {
-        Shares {
-            first: Share::split_from(&mut self.first),
-            second: Share::split_from(&mut self.second),
-            third: Share::split_from(&mut self.third),
-            fourth: Share::split_from(&mut self.fourth),
-            asks: AskList::new(),
-        }
-    }
-}
-
 fn budget_of(mirrors: &[Mirror], index: usize) -> u64
     requires { are_bounded mirrors.now ≡ true }
     ensures budget { result ≡ budget_at mirrors.now index }
@@ -91,7 +60,7 @@ fn budget_of(mirrors: &[Mirror], index: usize) -> u64
 
 fn split_shares<A: BudgetName, B: BudgetName, C: BudgetName, D: BudgetName>(
     alloc: Global,
-    rest: Rest<A, B, C, D>,
+    rest: Parts<A, B, C, D>,
     workers: usize,
 ) -> Result<Vec<Shares<A, B, C, D>>, AllocError>
     requires first { (rest.first.parts ≡ workers) × (rest.first.amount ≡ 0) }
@@ -148,20 +117,20 @@ pub fn open_books<A: BudgetName, B: BudgetName, C: BudgetName, D: BudgetName, R:
     ensures unused { IfOk result (λ opened. All (λ s. AreUnused s.first s.second s.third s.fourth s.asks) opened.shares.items) }
 {
     let _ = rt;
+    let copies = copied(alloc, &mirrors)?;
     let (raises_0, raises_1, raises_2, raises_3) = blanks.raises;
     let (book_0, first, raiser_0) = Book::open(blanks.first, raises_0, budget_of(&mirrors, 0));
     let (book_1, second, raiser_1) = Book::open(blanks.second, raises_1, budget_of(&mirrors, 1));
     let (book_2, third, raiser_2) = Book::open(blanks.third, raises_2, budget_of(&mirrors, 2));
     let (book_3, fourth, raiser_3) = Book::open(blanks.fourth, raises_3, budget_of(&mirrors, 3));
-    let rest = Rest {
+    let rest = Parts {
         first,
         second,
         third,
         fourth,
     };
-    let shares = split_shares(alloc, rest, workers)?;
     let raisers = Raisers {
-        mirrors: copied(alloc, &mirrors)?,
+        mirrors: copies,
         first: raiser_0,
         second: raiser_1,
         third: raiser_2,
@@ -174,6 +143,7 @@ pub fn open_books<A: BudgetName, B: BudgetName, C: BudgetName, D: BudgetName, R:
         third: Mutex::new(book_2),
         fourth: Mutex::new(book_3),
     };
+    let shares = split_shares(alloc, rest, workers)?;
     Ok(Opened {
         books,
         shares,

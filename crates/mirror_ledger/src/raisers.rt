@@ -14,13 +14,25 @@ use std::sync::{Mutex, Wait};
 // rule: Present budgets
 /// The raisers of the books of one to four mirrors, which contracts see as the list of these mirrors with their present
 /// budgets.
-#[derive(Drop)]
 pub struct Raisers<A: BudgetName, B: BudgetName, C: BudgetName, D: BudgetName> {
     pub(crate) mirrors: Vec<Mirror>,
     pub(crate) first: Raiser<A>,
     pub(crate) second: Raiser<B>,
     pub(crate) third: Raiser<C>,
     pub(crate) fourth: Raiser<D>,
+}
+
+// Written out, so that no caller proves again how each part is dropped.
+impl<A: BudgetName, B: BudgetName, C: BudgetName, D: BudgetName> Drop for Raisers<A, B, C, D> {
+    fn drop(self) {
+        let Raisers {
+            mirrors: _,
+            first: _,
+            second: _,
+            third: _,
+            fourth: _,
+        } = self;
+    }
 }
 
 impl<A: BudgetName, B: BudgetName, C: BudgetName, D: BudgetName> Model for Raisers<A, B, C, D> {
@@ -92,6 +104,20 @@ fn granted_by<P: BudgetName, R: Wait>(rt: &R, book: &Mutex<Book<P>>, raiser: &mu
 }
 
 impl<A: BudgetName, B: BudgetName, C: BudgetName, D: BudgetName> Raisers<A, B, C, D> {
+    /// Gives the mirrors, with their present budgets.
+    pub(crate) fn into_mirrors(self) -> Vec<Mirror>
+        ensures { result.items ≡ self }
+    {
+        let Raisers {
+            mirrors,
+            first: _,
+            second: _,
+            third: _,
+            fourth: _,
+        } = self;
+        mirrors
+    }
+
     // rule: Granted so far
     /// Returns how many bytes the mirror at an index granted so far, within its present budget; 0 if there is none.
     ///
