@@ -2,7 +2,7 @@
 
 ghost use Rattle.std.specs.Prelude.{◌≡◌, ℕ, ◌<◌, ◌≤◌, ◌∷◌, [], IfOk, length, map, slice_index, sum_by, vec_len};
 ghost use Rattle.mirror_ledger.specs.Named.{budget_at, totals_of};
-ghost use Rattle.mirror_ledger.specs.Tills.{granted_by};
+ghost use Rattle.mirror_ledger.specs.Tills.{AreTotalsOf, granted_by};
 
 use crate::book::{Book, BudgetName, Raiser};
 use crate::books::{Books, Shares};
@@ -33,8 +33,8 @@ fn gathered<A: BudgetName, B: BudgetName, C: BudgetName, D: BudgetName>(
     parts
 }
 
-/// Takes the parts of the ledgers back from tills, whose shares are what their asks came to.
-pub(crate) fn gather_tills<A: BudgetName, B: BudgetName, C: BudgetName, D: BudgetName>(
+// Takes the parts of the ledgers back from tills, whose shares are what their asks came to.
+fn gather_tills<A: BudgetName, B: BudgetName, C: BudgetName, D: BudgetName>(
     tills: Vec<Hand<'_, A, B, C, D>>,
 ) -> Parts<A, B, C, D>
     requires { 0 < vec_len tills }
@@ -93,9 +93,9 @@ fn all_totals<A: BudgetName, B: BudgetName, C: BudgetName, D: BudgetName, R: Wai
     ]
 }
 
-/// Closes the books by all parts of their ledgers and by their raisers, and returns each mirror's total in bytes, and the
-/// mirrors with their budgets at the end.
-pub(crate) fn close_parts<A: BudgetName, B: BudgetName, C: BudgetName, D: BudgetName, R: Wait>(
+// Closes the books by all parts of their ledgers and by their raisers, and returns each mirror's total in bytes, and the
+// mirrors with their budgets at the end.
+fn close_parts<A: BudgetName, B: BudgetName, C: BudgetName, D: BudgetName, R: Wait>(
     rt: &R,
     alloc: Global,
     books: &Books<A, B, C, D>,
@@ -116,6 +116,28 @@ pub(crate) fn close_parts<A: BudgetName, B: BudgetName, C: BudgetName, D: Budget
     let totals = all_totals(rt, books, parts, &mut raisers);
     let granted = Vec::from_slice(alloc, &totals[..raisers.mirrors.len()])?;
     Ok((granted, raisers.into_mirrors()))
+}
+
+/// Closes the books by the tills of all workers and by their raisers, and returns each mirror's total in bytes, and the
+/// mirrors with their budgets at the end.
+pub(crate) fn close_tills<A: BudgetName, B: BudgetName, C: BudgetName, D: BudgetName, R: Wait>(
+    rt: &R,
+    alloc: Global,
+    books: &Books<A, B, C, D>,
+    tills: Vec<Hand<'_, A, B, C, D>>,
+    raisers: Raisers<A, B, C, D>,
+) -> Result<(Vec<u64>, Vec<Mirror>), AllocError>
+    requires some { 0 < vec_len tills }
+    requires first { vec_len tills ≡ A.parts }
+    requires second { vec_len tills ≡ B.parts }
+    requires third { vec_len tills ≡ C.parts }
+    requires fourth { vec_len tills ≡ D.parts }
+    ensures mirrors { IfOk result (λ closed. closed.1.items ≡ raisers) }
+    ensures totals { IfOk result (λ closed. AreTotalsOf closed.1.items (map (λ t. t.shares.asks) tills.entry.items) closed.0.items) }
+{
+    let parts = gather_tills(tills);
+    let (totals, mirrors) = close_parts(rt, alloc, books, parts, raisers)?;
+    Ok((totals, mirrors))
 }
 
 // rule: Total of a mirror

@@ -9,23 +9,12 @@ use crate::books::Shares;
 use std::sync::ledger;
 
 /// The parts of the four ledgers that no worker has.
+#[derive(Drop)]
 pub(crate) struct Parts<A: BudgetName, B: BudgetName, C: BudgetName, D: BudgetName> {
     pub(crate) first: ledger::Share<A>,
     pub(crate) second: ledger::Share<B>,
     pub(crate) third: ledger::Share<C>,
     pub(crate) fourth: ledger::Share<D>,
-}
-
-// Written out, so that no caller proves again how each part is dropped.
-impl<A: BudgetName, B: BudgetName, C: BudgetName, D: BudgetName> Drop for Parts<A, B, C, D> {
-    fn drop(self) {
-        let Parts {
-            first: _,
-            second: _,
-            third: _,
-            fourth: _,
-        } = self;
-    }
 }
 
 impl<A: BudgetName, B: BudgetName, C: BudgetName, D: BudgetName> Parts<A, B, C, D> {

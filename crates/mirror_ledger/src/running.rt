@@ -1,6 +1,6 @@
 //! Jobs with tills in threads, over books that are opened for them and closed after them.
 
-ghost use Rattle.std.specs.Prelude.{◌≡◌, ◌&&◌, ◌<◌, ◌≤◌, Bool, List, All, IfErr, IfOk, None, Some, length, map, nat_eq, not, true, vec_len};
+ghost use Rattle.std.specs.Prelude.{◌≡◌, ◌+◌, ◌&&◌, ◌++◌, ◌∷◌, ◌<◌, ◌≤◌, [], Bool, List, All, IfErr, IfOk, None, OnOk, Some, map, nat_eq, not, true, vec_len};
 ghost use Rattle.std.specs.List.{AllZip};
 ghost use Rattle.catalogue.specs.declared.mirror.Mirror.{Mirror};
 ghost use Rattle.worker_threads.specs.Jobs.{EndsAs};
@@ -11,14 +11,15 @@ ghost use Rattle.mirror_ledger.specs.Running.{end_of, till_of};
 ghost use Rattle.mirror_ledger.specs.Tills.{AreTotalsOf, HadNoRoom, HasEnded, HaveWorked, IsFresh};
 
 use crate::book::BudgetName;
+use crate::books::Books;
 use crate::budgets::Treasurer;
-use crate::closing::{close_parts, gather_tills};
+use crate::closing::close_tills;
 use crate::job::{BudgetJob, TillJob, WithBudgets, WithTill};
 use crate::opening::{Blanks, Opened, open_books};
 use crate::raisers::Raisers;
 use crate::rejected::{all_granted_below, are_full};
 use crate::run_error::RunError;
-use crate::till::Till;
+use crate::till::{Hand, Till};
 use crate::working::tills_of;
 use catalogue::Mirror;
 use std::alloc::{AllocError, Global};
@@ -40,6 +41,19 @@ pub struct Ran<J: TillJob + Drop, O: BudgetJob> {
     pub mirrors: Vec<Mirror>,
 }
 
+// Gives a job one of the tills.
+fn with_till<J: Drop, T: Drop>(job: J, tills: &mut Vec<T>) -> WithTill<J, T>
+    requires { 0 < vec_len tills.old }
+    ensures job { result.job ≡ job }
+    ensures till { tills.old.items ≡ tills.new.items ++ result.till ∷ [] }
+    ensures many { vec_len tills.new + 1 ≡ vec_len tills.old }
+{
+    let Some(till) = tills.pop() else {
+        unreachable!()
+    };
+    WithTill { job, till }
+}
+
 // Gives each job a till.
 fn paired<J: TillJob + Drop, T: Till + Drop>(
     alloc: Global,
@@ -55,10 +69,7 @@ fn paired<J: TillJob + Drop, T: Till + Drop>(
     let mut tills = tills;
     let mut pairs = Vec::new(alloc);
     for job in jobs {
-        let Some(till) = tills.pop() else {
-            unreachable!()
-        };
-        pairs.push(WithTill { job, till })?;
+        pairs.push(with_till(job, &mut tills))?;
     }
     Ok(pairs)
 }
@@ -75,6 +86,21 @@ fn parted<J: TillJob + Drop, T: Till + Drop>(
     }
 }
 
+// Keeps a till, and what its job came to.
+fn keep<T: Drop, E: Drop>(
+    tills: &mut Vec<T>,
+    ends: &mut Vec<E>,
+    till: T,
+    end: E,
+) -> Result<(), AllocError>
+    ensures tills { OnOk result (tills.new.items ≡ tills.old.items ++ till ∷ []) }
+    ensures ends { OnOk result (ends.new.items ≡ ends.old.items ++ end ∷ []) }
+{
+    tills.push(till)?;
+    ends.push(end)?;
+    Ok(())
+}
+
 // The tills of the workers' jobs, and what the jobs came to.
 fn split<J: TillJob + Drop, T: Till + Drop>(
     alloc: Global,
@@ -87,8 +113,7 @@ fn split<J: TillJob + Drop, T: Till + Drop>(
     let mut ends = Vec::new(alloc);
     for ran in all {
         let (till, end) = parted(ran);
-        tills.push(till)?;
-        ends.push(end)?;
+        keep(&mut tills, &mut ends, till, end)?;
     }
     Ok((tills, ends))
 }
@@ -148,6 +173,32 @@ fn own_parted<
     }
 }
 
+// Closes the books, and fails with `RoomLeft` if an ask was rejected for which a mirror has room.
+fn closed<A: BudgetName, B: BudgetName, C: BudgetName, D: BudgetName, R: Wait>(
+    rt: &R,
+    alloc: Global,
+    books: &Books<A, B, C, D>,
+    tills: Vec<Hand<'_, A, B, C, D>>,
+    raisers: Raisers<A, B, C, D>,
+) -> Result<(Vec<u64>, Vec<Mirror>), RunError>
+    requires some { 0 < vec_len tills }
+    requires first { vec_len tills ≡ A.parts }
+    requires second { vec_len tills ≡ B.parts }
+    requires third { vec_len tills ≡ C.parts }
+    requires fourth { vec_len tills ≡ D.parts }
+    ensures mirrors { IfOk result (λ closed. closed.1.items ≡ raisers) }
+    ensures totals { IfOk result (λ closed. AreTotalsOf closed.1.items (map (λ t. t.shares.asks) tills.entry.items) closed.0.items) }
+    ensures no_room { IfOk result (λ closed. HadNoRoom books.now (map (λ t. t.shares.asks) tills.entry.items) closed.0.items) }
+{
+    let bound = all_granted_below(&tills);
+    let (totals, mirrors) = close_tills(rt, alloc, books, tills, raisers)?;
+    let given = books.given();
+    if !are_full(given, &totals, bound) {
+        return Err(RunError::RoomLeft);
+    }
+    Ok((totals, mirrors))
+}
+
 // Runs jobs over books whose ledgers have these names.
 fn run_over<
     A: BudgetName + Send + Sync,
@@ -199,13 +250,7 @@ fn run_over<
     };
     let (tills, ends, own) = work_together(rt, alloc, gate, jobs, tills, beside)?;
     let (raisers, own) = own_parted(own);
-    let bound = all_granted_below(&tills);
-    let parts = gather_tills(tills);
-    let (totals, mirrors) = close_parts(rt, alloc, &books, parts, raisers)?;
-    let given = books.given();
-    if !are_full(given, &totals, bound) {
-        return Err(RunError::RoomLeft);
-    }
+    let (totals, mirrors) = closed(rt, alloc, &books, tills, raisers)?;
     Ok(Ran {
         ends,
         own,

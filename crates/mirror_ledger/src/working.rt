@@ -9,7 +9,7 @@ ghost use Rattle.mirror_ledger.specs.Tills.{AreOpened, AreTotalsOf};
 
 use crate::book::BudgetName;
 use crate::books::{Books, Shares};
-use crate::closing::{close_parts, gather_tills};
+use crate::closing::close_tills;
 use crate::opening::{Blanks, Opened, open_books};
 use crate::till::{Hand, Till};
 use catalogue::Mirror;
@@ -95,8 +95,7 @@ fn work_over<
     } = open_books::<A, B, C, D, R>(rt, alloc, blanks, mirrors, workers)?;
     let mut tills = tills_of(alloc, &books, shares)?;
     let end = job.work(rt, &mut tills);
-    let parts = gather_tills(tills);
-    let (totals, _mirrors) = close_parts(rt, alloc, &books, parts, raisers)?;
+    let (totals, _mirrors) = close_tills(rt, alloc, &books, tills, raisers)?;
     Ok((end, totals))
 }
 

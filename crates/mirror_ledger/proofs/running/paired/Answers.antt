@@ -10,25 +10,24 @@ loop-job-preserved g c =
     let at = c.loop-job in
     let steps : into_iter_items at.job-iterator ≡ c.in-Some.job ∷ into_iter_items c.next.new.self = c.in-Some.ensures.steps.0 in
     let short = ap length steps in
-    let popped = ap length c.in-Some-pop.ensures.items in
     record {
       rest = append_assoc at.yielded (c.in-Some.job ∷ []) _ ∙ rw (← steps) at.invariant.rest;
       count =
           let was = at.invariant.count in
           let gone = c.in-Some.ensures.steps.1 in
           omega arith;
-      left = omega (arith, at.invariant.left, short, c.in-Some-pop.ensures.cases, at.tills.ok.0, c.pop.new.self.ok.0);
+      left = omega (arith, at.invariant.left, short, c.with_till.ensures.many, at.tills.ok.0, c.with_till.new.tills.ok.0);
       jobs =
           rw c.in_ok-push.ensures.items
-          (map-append (λ pair. pair.job) at.pairs.items (record { job = c.in-Some.job; till = c.in-Some-pop.till } ∷ [])
-          ∙ ap (λ jobs. jobs ++ c.in-Some.job ∷ []) at.invariant.jobs);
+          (map-append (λ pair. pair.job) at.pairs.items (c.with_till.result ∷ [])
+          ∙ ap (λ jobs. jobs ++ c.with_till.result.job ∷ []) at.invariant.jobs
+          ∙ ap (λ job. at.yielded ++ job ∷ []) c.with_till.ensures.job);
       fresh = λ single mirrors all.
           let Fresh = IsFresh g.T.Till.mirrors g.T.Till.asks g.T.Till.alone single mirrors in
           let (tills, pairs) = at.invariant.fresh single mirrors all in
-          let (others, one) = All-pop Fresh at.tills.items c.pop.new.self.items (Some c.in-Some-pop.till) c.in-Some-pop.ensures.items tills in (
+          let (others, one) = All-pop Fresh at.tills.items c.with_till.new.tills.items (Some c.with_till.result.till) c.with_till.ensures.till tills in (
             others,
-            rw c.in_ok-push.ensures.items
-                (All-push (λ pair. Fresh pair.till) at.pairs.items (record { job = c.in-Some.job; till = c.in-Some-pop.till }) pairs one),
+            rw c.in_ok-push.ensures.items (All-push (λ pair. Fresh pair.till) at.pairs.items c.with_till.result pairs one),
           );
     }
 

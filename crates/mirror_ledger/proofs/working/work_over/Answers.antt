@@ -1,6 +1,8 @@
-use Rattle.std.proofs.Common.{◌∙◌, arith, false, inr, map}
+use Rattle.std.proofs.Common.{◌∙◌, List, arith, false, inr, map, subst}
+use Rattle.catalogue.specs.declared.mirror.Mirror.{Mirror}
+use Rattle.mirror_ledger.specs.Tills.{AreTotalsOf}
 use Rattle.mirror_ledger.proofs.NamedLemmas.{AreTops-fixed}
-use Rattle.mirror_ledger.proofs.TillLemmas.{AreTotalsOf-parts, OnErr-any, length-asks}
+use Rattle.mirror_ledger.proofs.TillLemmas.{OnErr-any, length-asks}
 use Rattle.mirror_ledger.proofs.working.work_over.Goals as goal
 
 pub returns-in_err-totals-clause-err : goal.returns-in_err-totals-clause-err
@@ -11,9 +13,8 @@ returns-in_err-totals-clause-err g c =
 pub returns-clause-ok : goal.returns-clause-ok
 returns-clause-ok g c =
     let worked = c.work-end.ensures.works c.args.mirrors.items (c.in_ok-tills.ensures.opened false c.args.mirrors.items c.in_ok-books.ensures.given (AreTops-fixed c.args.mirrors.items _ _ _ _ c.requires.fixed)) in
-    let parts = c.gather_tills-parts.result in
-    let gathered = c.gather_tills-parts.ensures in (
-      map (λ t. t.shares.asks) c.work-end.new.tills.items,
+    let asks = map (λ t. t.shares.asks) c.work-end.new.tills.items in (
+      asks,
       omega (
         arith,
         length-asks (λ t. t.shares.asks) c.work-end.new.tills.items,
@@ -23,9 +24,6 @@ returns-clause-ok g c =
         c.in_ok-books.ensures.workers,
       ),
       worked,
-      AreTotalsOf-parts _ c.args.mirrors.items (map (λ t. t.shares.asks) c.work-end.new.tills.items) c.in_ok-totals.totals.items
-          parts.first.amount parts.second.amount parts.third.amount parts.fourth.amount
-          (c.in_ok-totals.ensures.mirrors ∙ c.in_ok-books.ensures.present)
-          c.in_ok-totals.ensures.totals gathered.first.1 gathered.second.1 gathered.third.1 gathered.fourth.1
-          c.in_ok-totals.ensures.within,
+      subst (λ (all : List Mirror). AreTotalsOf all asks c.in_ok-totals.totals.items)
+          (c.in_ok-totals.ensures.mirrors ∙ c.in_ok-books.ensures.present) c.in_ok-totals.ensures.totals,
     )
