@@ -1,6 +1,6 @@
 //! The books of all mirrors, and a worker's shares of them.
 
-ghost use Rattle.std.specs.Prelude.{◌≡◌, ◌↔◌, ◌+◌, ◌++◌, ◌∷◌, [], ◌<◌, true, if◌then◌else◌, length, IfSome, Some};
+ghost use Rattle.std.specs.Prelude.{◌≡◌, ◌↔◌, ◌+◌, ◌++◌, ◌∷◌, [], ◌<◌, ◌≤◌, true, if◌then◌else◌, length, IfSome, Some};
 ghost use Rattle.mirror_ledger.specs.Asks.{AreTallied, booked};
 ghost use Rattle.mirror_ledger.specs.Order.{HasRoomAt, IsAlone, IsFirstWithRoom};
 
@@ -88,6 +88,19 @@ impl<A: BudgetName, B: BudgetName, C: BudgetName, D: BudgetName> Books<A, B, C, 
     }
 }
 
+// Whether one book grants the bytes to the worker's share of it.
+fn is_granted<P: BudgetName, R: Wait>(
+    rt: &R,
+    book: &Mutex<Book<P>>,
+    share: &mut Share<P>,
+    bytes: u64,
+) -> bool
+    ensures share { share.new ≡ share.old + (if result then bytes else 0) }
+    ensures alone { P.parts ≡ 1 → P.most ≤ P.budget → ((result ≡ true) ↔ (share.old + bytes ≤ P.budget)) }
+{
+    book.lock(rt).grant(share, bytes).is_ok()
+}
+
 impl<A: BudgetName, B: BudgetName, C: BudgetName, D: BudgetName> Shares<A, B, C, D> {
     fn ask_at<R: Wait>(
         &mut self,
@@ -107,10 +120,10 @@ impl<A: BudgetName, B: BudgetName, C: BudgetName, D: BudgetName> Shares<A, B, C,
             → ((result ≡ true) ↔ HasRoomAt books.now self.old.asks bytes index) }
     {
         match index {
-            0 => books.first.lock(rt).grant(&mut self.first, bytes).is_ok(),
-            1 => books.second.lock(rt).grant(&mut self.second, bytes).is_ok(),
-            2 => books.third.lock(rt).grant(&mut self.third, bytes).is_ok(),
-            _ => books.fourth.lock(rt).grant(&mut self.fourth, bytes).is_ok(),
+            0 => is_granted(rt, &books.first, &mut self.first, bytes),
+            1 => is_granted(rt, &books.second, &mut self.second, bytes),
+            2 => is_granted(rt, &books.third, &mut self.third, bytes),
+            _ => is_granted(rt, &books.fourth, &mut self.fourth, bytes),
         }
     }
 
