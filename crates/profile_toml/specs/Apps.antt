@@ -34,12 +34,17 @@ app_of schema table = do
   diffs ← each diff_of diff_list
   Ok (record { id = id; default = default; cohorts = cohorts; releases = releases; diffs = diffs })
 
+-- the app is added, and its cohorts
+abbrev pub added_edits : AppEntry → List Edit
+added_edits app =
+    (edit.AddApp (record { app = app.id; default = app.default }) ∷ [])
+    ++ flat_map (cohort_edits app.id app.default) app.cohorts
+
 -- rule: Edits of a profile
 -- the edits of an app
 abbrev pub app_edits : AppEntry → List Edit
 app_edits app =
-    (edit.AddApp (record { app = app.id; default = app.default }) ∷ [])
-    ++ flat_map (cohort_edits app.id app.default) app.cohorts
+    added_edits app
     ++ flat_map (release_edits app.id) app.releases
     ++ flat_map (diff_edits app.id) app.diffs
     ++ flat_map (setting_edits app.id) app.cohorts

@@ -58,6 +58,10 @@ added_to app full =
       sha256 = full.sha256;
     }
 
+-- it is added
+abbrev pub added_edits : List ℕ → PackageEntry → List Edit
+added_edits app full = edit.AddRelease (added_to app full) ∷ []
+
 -- the release is set to be a stone, if it is one
 abbrev pub stone_edits : List ℕ → List ℕ → Bool → List Edit
 stone_edits app version stone =
@@ -84,7 +88,7 @@ floor_edits app version (Some floor) =
 -- the edits of a release
 abbrev pub release_edits : List ℕ → ReleaseEntry → List Edit
 release_edits app release =
-    (edit.AddRelease (added_to app release.full) ∷ [])
+    added_edits app release.full
     ++ stone_edits app release.full.version release.stone
     ++ withdrawn_edits app release.full.version release.withdrawn
     ++ audience_edits app release.full.version release.audience

@@ -4,7 +4,7 @@ ghost use Rattle.std.specs.Prelude.{◌≡◌, ◌++◌, IfOk, OnOk};
 ghost use Rattle.std.specs.List.{flat_map};
 ghost use Rattle.values.specs.Reading.{Reads};
 ghost use Rattle.profile_toml.specs.Readers.{placed};
-ghost use Rattle.profile_toml.specs.Apps.{app_edits, app_of, edits_of};
+ghost use Rattle.profile_toml.specs.Apps.{added_edits, app_edits, app_of, edits_of};
 ghost use Rattle.profile_toml.specs.Cohorts.{cohort_edits, setting_edits};
 ghost use Rattle.profile_toml.specs.Diffs.{diff_edits};
 ghost use Rattle.profile_toml.specs.Releases.{release_edits};
@@ -19,7 +19,6 @@ use std::alloc::{AllocError, Global};
 use values::{Items, ReadError, Text};
 
 /// A table `app`.
-#[derive(Drop)]
 pub(crate) struct AppEntry {
     /// The key `id`.
     pub id: Text,
@@ -31,6 +30,44 @@ pub(crate) struct AppEntry {
     pub releases: Items<ReleaseEntry>,
     /// The tables `diff`.
     pub diffs: Items<DiffEntry>,
+}
+
+// Written out, so that no caller proves again how each part is dropped.
+impl Drop for AppEntry {
+    fn drop(self) {
+        let AppEntry {
+            id: _,
+            default: _,
+            cohorts: _,
+            releases: _,
+            diffs: _,
+        } = self;
+    }
+}
+
+impl AppEntry {
+    fn into_parts(
+        self,
+    ) -> (
+        Text,
+        Items<CohortEntry>,
+        Items<ReleaseEntry>,
+        Items<DiffEntry>,
+    )
+        ensures id { result.0 ≡ self.id }
+        ensures cohorts { result.1 ≡ self.cohorts }
+        ensures releases { result.2 ≡ self.releases }
+        ensures diffs { result.3 ≡ self.diffs }
+    {
+        let AppEntry {
+            id,
+            default: _,
+            cohorts,
+            releases,
+            diffs,
+        } = self;
+        (id, cohorts, releases, diffs)
+    }
 }
 
 // rule: App of a profile
@@ -127,21 +164,23 @@ fn push_all_settings(
     Ok(())
 }
 
+// Pushes the edits that add an app and its cohorts.
+fn push_added(app: &AppEntry, edits: &mut Items<Edit>) -> Result<(), AllocError>
+    ensures { OnOk result (edits.new ≡ edits.old ++ added_edits app.now) }
+{
+    let edit = AddApp {
+        app: app.id.clone()?,
+        default: app.default.clone()?,
+    };
+    edits.push(Edit::AddApp(edit))?;
+    push_cohorts(&app.id, &app.default, app.cohorts.as_slice(), edits)
+}
+
 fn push_app(app: AppEntry, edits: &mut Items<Edit>) -> Result<(), AllocError>
     ensures { OnOk result (edits.new ≡ edits.old ++ app_edits app) }
 {
-    let AppEntry {
-        id,
-        default,
-        cohorts,
-        releases,
-        diffs,
-    } = app;
-    edits.push(Edit::AddApp(AddApp {
-        app: id.clone()?,
-        default: default.clone()?,
-    }))?;
-    push_cohorts(&id, &default, cohorts.as_slice(), edits)?;
+    push_added(&app, edits)?;
+    let (id, cohorts, releases, diffs) = app.into_parts();
     push_releases(&id, releases, edits)?;
     push_diffs(&id, diffs, edits)?;
     push_all_settings(&id, cohorts.as_slice(), edits)

@@ -11,7 +11,6 @@ use std::alloc::AllocError;
 use values::{Items, ReadError, Text};
 
 /// A table `diff`.
-#[derive(Drop)]
 pub(crate) struct DiffEntry {
     /// The key `from`, the version that it starts at.
     pub from: Text,
@@ -23,6 +22,42 @@ pub(crate) struct DiffEntry {
     pub size: u64,
     /// The key `sha256`.
     pub sha256: Text,
+}
+
+// Written out, so that no caller proves again how each part is dropped.
+impl Drop for DiffEntry {
+    fn drop(self) {
+        let DiffEntry {
+            from: _,
+            to: _,
+            name: _,
+            size: _,
+            sha256: _,
+        } = self;
+    }
+}
+
+impl DiffEntry {
+    /// Makes the edit that adds the differential to an app.
+    pub(crate) fn added_to(self, app: Text) -> AddDiff
+        ensures { result ≡ diff_added_to app self }
+    {
+        let DiffEntry {
+            from,
+            to,
+            name,
+            size,
+            sha256,
+        } = self;
+        AddDiff {
+            app,
+            from,
+            to,
+            name,
+            size,
+            sha256,
+        }
+    }
 }
 
 /// Reads what a table says of a differential.
@@ -63,27 +98,6 @@ impl TableKind for DiffTable {
     }
 }
 
-/// Makes the edit that adds a differential to an app.
-pub(crate) fn diff_added_to(app: Text, diff: DiffEntry) -> AddDiff
-    ensures { result ≡ diff_added_to app diff }
-{
-    let DiffEntry {
-        from,
-        to,
-        name,
-        size,
-        sha256,
-    } = diff;
-    AddDiff {
-        app,
-        from,
-        to,
-        name,
-        size,
-        sha256,
-    }
-}
-
 /// Pushes the edit of a differential.
 pub(crate) fn push_diff(
     app: &Text,
@@ -93,5 +107,5 @@ pub(crate) fn push_diff(
     ensures { OnOk result (edits.new ≡ edits.old ++ diff_edits app.now diff) }
 {
     let app = app.clone()?;
-    edits.push(Edit::AddDiff(diff_added_to(app, diff)))
+    edits.push(Edit::AddDiff(diff.added_to(app)))
 }

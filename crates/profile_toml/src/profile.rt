@@ -1,5 +1,6 @@
 //! Profiles.
 
+ghost use Rattle.std.specs.Prelude.{◌≡◌};
 ghost use Rattle.values.specs.Reading.{Reads};
 ghost use Rattle.profile_toml.specs.Readers.{placed};
 ghost use Rattle.profile_toml.specs.Documents.{entries};
@@ -16,10 +17,29 @@ use std::alloc::Global;
 use values::{Items, ReadError};
 
 /// What a profile's tables say.
-#[derive(Drop)]
 struct Profile {
     mirrors: Items<Mirror>,
     apps: Items<AppEntry>,
+}
+
+// Written out, so that no caller proves again how each part is dropped.
+impl Drop for Profile {
+    fn drop(self) {
+        let Profile {
+            mirrors: _,
+            apps: _,
+        } = self;
+    }
+}
+
+impl Profile {
+    fn into_parts(self) -> (Items<Mirror>, Items<AppEntry>)
+        ensures mirrors { result.0 ≡ self.mirrors }
+        ensures apps { result.1 ≡ self.apps }
+    {
+        let Profile { mirrors, apps } = self;
+        (mirrors, apps)
+    }
 }
 
 // rule: Tables of a profile
@@ -67,7 +87,7 @@ pub fn read_profile(
     let document = parse(alloc, bytes)?;
     let document = TableReader::new(alloc, &document);
     let schema = read_schema(&document)?;
-    let Profile { mirrors, apps } = read_entries(schema, &document)?;
+    let (mirrors, apps) = read_entries(schema, &document)?.into_parts();
     let mirrors = check_mirrors(mirrors)?;
     let edits = edits_of(alloc, apps)?;
     Ok((Batch::new(edits.into_vec()), mirrors.into_vec()))

@@ -1,10 +1,10 @@
 //! A release of a profile: what its table says, and its edits.
 
-ghost use Rattle.std.specs.Prelude.{◌≡◌, ◌++◌, OnOk};
+ghost use Rattle.std.specs.Prelude.{◌≡◌, ◌++◌, IfOk, OnOk};
 ghost use Rattle.values.specs.Reading.{Reads};
 ghost use Rattle.profile_toml.specs.Fields.{known};
 ghost use Rattle.profile_toml.specs.Readers.{placed};
-ghost use Rattle.profile_toml.specs.Releases.{added_to, audience_edits, floor_edits, package_in, release_edits, release_keys, release_of, stone_edits, withdrawn_edits};
+ghost use Rattle.profile_toml.specs.Releases.{added_edits, added_to, audience_edits, floor_edits, package_in, release_edits, release_keys, release_of, stone_edits, withdrawn_edits};
 
 use crate::document::Schema;
 use crate::tables::{BadEntry, TableKind, TableReader};
@@ -13,7 +13,6 @@ use std::alloc::AllocError;
 use values::{Items, ReadError, Text};
 
 /// What is said of a release's version and its full package.
-#[derive(Drop)]
 pub(crate) struct PackageEntry {
     /// The key `version`.
     pub version: Text,
@@ -25,8 +24,40 @@ pub(crate) struct PackageEntry {
     pub sha256: Text,
 }
 
+// Written out, so that no caller proves again how each part is dropped.
+impl Drop for PackageEntry {
+    fn drop(self) {
+        let PackageEntry {
+            version: _,
+            name: _,
+            size: _,
+            sha256: _,
+        } = self;
+    }
+}
+
+impl PackageEntry {
+    /// Makes the edit that adds the release to an app.
+    pub(crate) fn added_to(self, app: Text) -> AddRelease
+        ensures { result ≡ added_to app self }
+    {
+        let PackageEntry {
+            version,
+            name,
+            size,
+            sha256,
+        } = self;
+        AddRelease {
+            app,
+            version,
+            name,
+            size,
+            sha256,
+        }
+    }
+}
+
 /// A table `release`.
-#[derive(Drop)]
 pub(crate) struct ReleaseEntry {
     /// The version and the full package.
     pub full: PackageEntry,
@@ -38,6 +69,36 @@ pub(crate) struct ReleaseEntry {
     pub audience: Option<Items<Text>>,
     /// The key `floor`, a version, if it is given.
     pub floor: Option<Text>,
+}
+
+// Written out, so that no caller proves again how each part is dropped.
+impl Drop for ReleaseEntry {
+    fn drop(self) {
+        let ReleaseEntry {
+            full: _,
+            stone: _,
+            withdrawn: _,
+            audience: _,
+            floor: _,
+        } = self;
+    }
+}
+
+impl ReleaseEntry {
+    fn into_parts(self) -> (PackageEntry, Option<Items<Text>>, Option<Text>)
+        ensures full { result.0 ≡ self.full }
+        ensures audience { result.1 ≡ self.audience }
+        ensures floor { result.2 ≡ self.floor }
+    {
+        let ReleaseEntry {
+            full,
+            stone: _,
+            withdrawn: _,
+            audience,
+            floor,
+        } = self;
+        (full, audience, floor)
+    }
 }
 
 /// Reads what a table says of a release's version and its full package.
@@ -107,25 +168,6 @@ impl TableKind for ReleaseTable {
 
     fn read(&self, table: &TableReader<'_>) -> Result<ReleaseEntry, ReadError<BadEntry>> {
         read_release(self.schema, table)
-    }
-}
-
-/// Makes the edit that adds a release to an app.
-pub(crate) fn added_to(app: Text, full: PackageEntry) -> AddRelease
-    ensures { result ≡ added_to app full }
-{
-    let PackageEntry {
-        version,
-        name,
-        size,
-        sha256,
-    } = full;
-    AddRelease {
-        app,
-        version,
-        name,
-        size,
-        sha256,
     }
 }
 
@@ -205,6 +247,17 @@ fn push_floor(
     edits.push(Edit::SetFloor(edit))
 }
 
+// Pushes the edit that adds a release, and returns its version.
+fn push_package(app: &Text, full: PackageEntry, edits: &mut Items<Edit>) -> Result<Text, AllocError>
+    ensures version { IfOk result (λ version. version ≡ full.version) }
+    ensures edits { OnOk result (edits.new ≡ edits.old ++ added_edits app.now full) }
+{
+    let version = full.version.clone()?;
+    let app = app.clone()?;
+    edits.push(Edit::AddRelease(full.added_to(app)))?;
+    Ok(version)
+}
+
 // rule: Edits of a release of a profile
 /// Pushes the edits of a release.
 pub(crate) fn push_release(
@@ -214,15 +267,10 @@ pub(crate) fn push_release(
 ) -> Result<(), AllocError>
     ensures { OnOk result (edits.new ≡ edits.old ++ release_edits app.now release) }
 {
-    let ReleaseEntry {
-        full,
-        stone,
-        withdrawn,
-        audience,
-        floor,
-    } = release;
-    let version = full.version.clone()?;
-    edits.push(Edit::AddRelease(added_to(app.clone()?, full)))?;
+    let stone = release.stone;
+    let withdrawn = release.withdrawn;
+    let (full, audience, floor) = release.into_parts();
+    let version = push_package(app, full, edits)?;
     push_stone(app, &version, stone, edits)?;
     push_withdrawn(app, &version, withdrawn, edits)?;
     push_audience(app, &version, audience, edits)?;

@@ -6,9 +6,9 @@ ghost use Rattle.profile_toml.specs.Readers.{placed};
 ghost use Rattle.profile_toml.specs.ScriptEdits.{app_added, audience_set, cohort_added, diff_added, edit_in, edit_of, floor_set, open_set, release_added, rollback_set, share_set, stone_set, target_set, verb_named, verb_of, withdrawn_set};
 ghost use Rattle.profile_toml.specs.declared.document.Schema.TheVariants.{One};
 
-use crate::diff::{diff_added_to, read_diff_package};
+use crate::diff::read_diff_package;
 use crate::document::Schema;
-use crate::release::{added_to, read_package};
+use crate::release::read_package;
 use crate::tables::{BadEntry, TableKind, TableReader};
 use catalogue::{
     AddApp, AddCohort, AddDiff, AddRelease, Edit, SetAudience, SetFloor, SetOpen, SetRollback,
@@ -92,7 +92,7 @@ fn read_add_release(table: &TableReader<'_>) -> Result<AddRelease, ReadError<Bad
 {
     table.check_keys(&["do", "app", "version", "name", "size", "sha256"])?;
     let app = table.string("app")?;
-    Ok(added_to(app, read_package(table)?))
+    Ok(read_package(table)?.added_to(app))
 }
 
 #[tactic(auto, unfolding(crate::specs::ScriptEdits::cohort_added))]
@@ -149,7 +149,7 @@ fn read_add_diff(table: &TableReader<'_>) -> Result<AddDiff, ReadError<BadEntry>
 {
     table.check_keys(&["do", "app", "from", "to", "name", "size", "sha256"])?;
     let app = table.string("app")?;
-    Ok(diff_added_to(app, read_diff_package(table)?))
+    Ok(read_diff_package(table)?.added_to(app))
 }
 
 #[tactic(auto, unfolding(crate::specs::ScriptEdits::stone_set))]

@@ -29,11 +29,21 @@ pub trait TableKind {
 }
 
 /// The tables of a list.
-#[derive(Drop)]
 pub struct TableList<'t> {
     pub(crate) alloc: Global,
     pub(crate) path: Text,
     pub(crate) values: &'t [Value],
+}
+
+// Written out, so that no caller proves again how each part is dropped.
+impl Drop for TableList<'_> {
+    fn drop(self) {
+        let TableList {
+            alloc: _,
+            path: _,
+            values: _,
+        } = self;
+    }
 }
 
 fn read_element<'t>(
