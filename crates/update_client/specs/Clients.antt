@@ -3,6 +3,7 @@ use Rattle.std.specs.Prelude.{ℕ, List, [], ◌∷◌, ◌++◌, false, if◌th
 use Rattle.std.specs.Str.{str_eq_ignore_ascii_case}
 use Rattle.omaha_json.specs.declared.request.Request.{Request}
 use Rattle.omaha_json.specs.declared.request.AppAsk.{AppAsk}
+use Rattle.omaha_json.specs.declared.request.Check.{Check}
 use Rattle.omaha_json.specs.declared.reply.Reply.{Reply}
 use Rattle.omaha_json.specs.declared.reply.AppReply.{AppReply}
 use Rattle.omaha_json.specs.declared.reply.AppState.{AppState}
@@ -20,6 +21,10 @@ use Rattle.update_client.specs.declared.fault.Fault.TheVariants as fault
 use Rattle.update_client.specs.declared.hearing.Accepted.{Accepted}
 use Rattle.update_client.specs.declared.installer.Step.{Step}
 
+-- the update check of a client
+abbrev pub check_of : Installed → Check
+check_of client = record { disabled = false; rollback = client.rollback; prefix = client.prefix }
+
 -- what a client asks for its app
 abbrev pub ask_of : Installed → AppAsk
 ask_of client = record {
@@ -28,7 +33,7 @@ ask_of client = record {
   fp = client.fp;
   cohort = client.cohort;
   hint = client.hint;
-  check = Some (record { disabled = false; rollback = client.rollback; prefix = client.prefix });
+  check = Some (check_of client);
   ping = false;
   events = 0;
 }

@@ -2,7 +2,7 @@
 
 ghost use Rattle.std.specs.Prelude.{◌≡◌, [], IfOk};
 ghost use Rattle.omaha_json.specs.RequestWriting.{IsAppid};
-ghost use Rattle.update_client.specs.Clients.{ask_of, request_of, client_after};
+ghost use Rattle.update_client.specs.Clients.{ask_of, check_of, request_of, client_after};
 
 use crate::hearing::Accepted;
 use omaha_json::{AppAsk, Check, Offer, Request};
@@ -152,7 +152,7 @@ impl Client {
     pub(crate) fn take_over(&mut self, accepted: Accepted)
         ensures { self.new ≡ client_after self.old accepted }
     {
-        let Accepted { cohort, offer } = accepted;
+        let (cohort, offer) = accepted.into_parts();
         let Offer { version, fp, .. } = offer;
         self.version = version;
         self.fp = fp;
@@ -162,22 +162,42 @@ impl Client {
     }
 }
 
+// Copies of two strings.
+fn copy_both(alloc: Global, first: &str, second: &str) -> Result<(Text, Text), AllocError>
+    ensures { IfOk result (λ both. (both.0 ≡ first.now) × (both.1 ≡ second.now)) }
+{
+    let first = Text::copy_of(alloc, first)?;
+    let second = Text::copy_of(alloc, second)?;
+    Ok((first, second))
+}
+
+// The update check of a client.
+fn make_check(alloc: Global, client: &Client) -> Result<Check, AllocError>
+    ensures { IfOk result (λ check. check ≡ check_of client.now) }
+{
+    Ok(Check {
+        disabled: false,
+        rollback: client.rollback,
+        prefix: Text::copy_of(alloc, client.prefix())?,
+    })
+}
+
 // What the client asks for its app.
 fn make_ask(alloc: Global, client: &Client) -> Result<AppAsk, AllocError>
     ensures ask { IfOk result (λ ask. ask ≡ ask_of client.now) }
     ensures named { IsAppid client.now.app }
 {
+    let (appid, version) = copy_both(alloc, client.app.as_str(), client.version.as_str())?;
+    let check = make_check(alloc, client)?;
+    let (fp, cohort) = copy_both(alloc, client.fp.as_str(), client.cohort.as_str())?;
+    let hint = Text::copy_of(alloc, client.hint.as_str())?;
     Ok(AppAsk {
-        appid: Text::copy_of(alloc, client.app.as_str())?,
-        version: Text::copy_of(alloc, client.version.as_str())?,
-        fp: Text::copy_of(alloc, client.fp.as_str())?,
-        cohort: Text::copy_of(alloc, client.cohort.as_str())?,
-        hint: Text::copy_of(alloc, client.hint.as_str())?,
-        check: Some(Check {
-            disabled: false,
-            rollback: client.rollback,
-            prefix: Text::copy_of(alloc, client.prefix())?,
-        }),
+        appid,
+        version,
+        fp,
+        cohort,
+        hint,
+        check: Some(check),
         ping: false,
         events: 0,
     })

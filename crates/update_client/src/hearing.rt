@@ -10,12 +10,31 @@ use std::alloc::Global;
 use values::{ReadError, Text};
 
 /// An offer, with the cohort text of its reply.
-#[derive(Drop)]
 pub struct Accepted {
     /// The cohort text to send next, or empty.
     pub cohort: Text,
     /// The offer.
     pub offer: Offer,
+}
+
+// Written out, so that no caller proves again how each part is dropped.
+impl Drop for Accepted {
+    fn drop(self) {
+        let Accepted {
+            cohort: _,
+            offer: _,
+        } = self;
+    }
+}
+
+impl Accepted {
+    pub(crate) fn into_parts(self) -> (Text, Offer)
+        ensures cohort { result.0 ≡ self.cohort }
+        ensures offer { result.1 ≡ self.offer }
+    {
+        let Accepted { cohort, offer } = self;
+        (cohort, offer)
+    }
 }
 
 // Takes the only app out of a reply, if it is known and has that identifier.
