@@ -12,6 +12,6 @@ returns g c = record {
       let left = c.work_with_tills.new.job.view in
       RepliesFor-seen (λ text. text.items) c.args.mirrors c.args.view c.new.result left c.args.request.now c.args.moment asks c.in_ok-reply.reply _
       c.replied.result (replied asks same) c.new.ensures
-      (λ is. sym (ap (λ (s : Sight). s.seen) c.into_view.ensures) ∙ sym c.seen-2.ensures ∙ eqb-true c.seen-2.result c.seen-number.result is ∙ c.seen-number.ensures)
+      (λ is. sym (ap (λ (s : Sight). s.seen) c.into_view.ensures) ∙ sym c.seen.ensures ∙ eqb-true c.seen.result c.seen-number.result is ∙ c.seen-number.ensures)
       c.replied.ensures.ok;
 }
