@@ -1,5 +1,4 @@
 pub mod Asks
-pub mod Budgets
 pub mod FaultStrings
 pub mod Named
 pub mod Order

@@ -5,9 +5,9 @@ ghost use Rattle.mirror_ledger.specs.Asks.{AreTallied, booked};
 ghost use Rattle.mirror_ledger.specs.Order.{HasRoomAt, IsAlone, IsFirstWithRoom};
 
 use crate::asks::AskList;
-use crate::book::{Book, BudgetName, Share};
 use crate::parts::Parts;
 use catalogue::Mirror;
+use mirror_books::{Book, BudgetName, Share};
 use std::marker::Model;
 use std::sync::{Mutex, Wait};
 

@@ -5,11 +5,11 @@ ghost use Rattle.catalogue.specs.declared.mirror.Mirror.{Mirror};
 ghost use Rattle.mirror_ledger.specs.Named.{are_rising, budget_at};
 ghost use Rattle.mirror_ledger.specs.Raising.{RaisesTo, index_of};
 
-use crate::book::{BudgetName, Lower};
 use crate::books::Books;
 use crate::raise_error::RaiseError;
 use crate::raisers::{Raisers, copied};
 use catalogue::Mirror;
+use mirror_books::{BudgetName, Lower};
 use std::alloc::{AllocError, Global};
 use std::sync::Wait;
 

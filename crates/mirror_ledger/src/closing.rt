@@ -4,12 +4,12 @@ ghost use Rattle.std.specs.Prelude.{◌≡◌, ℕ, ◌<◌, ◌≤◌, ◌∷�
 ghost use Rattle.mirror_ledger.specs.Named.{budget_at, totals_of};
 ghost use Rattle.mirror_ledger.specs.Tills.{AreTotalsOf, granted_by};
 
-use crate::book::{Book, BudgetName, Raiser};
 use crate::books::{Books, Shares};
 use crate::parts::Parts;
 use crate::raisers::Raisers;
 use crate::till::Hand;
 use catalogue::Mirror;
+use mirror_books::{Book, BudgetName, Raiser};
 use std::alloc::{AllocError, Global};
 use std::sync::{Mutex, Wait, ledger};
 

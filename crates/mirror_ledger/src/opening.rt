@@ -4,11 +4,11 @@ ghost use Rattle.std.specs.Prelude.{◌≡◌, ◌<◌, ◌≤◌, ◌^◌, All,
 ghost use Rattle.mirror_ledger.specs.Named.{are_bounded, budget_at, IsNamed};
 ghost use Rattle.mirror_ledger.specs.Asks.{AreUnused};
 
-use crate::book::{Book, BudgetName};
 use crate::books::{Books, Shares};
 use crate::parts::Parts;
 use crate::raisers::{Raisers, copied};
 use catalogue::Mirror;
+use mirror_books::{Book, BudgetName};
 use std::alloc::{AllocError, Global};
 use std::sync::ledger::Blank;
 use std::sync::{Mutex, Wait};

@@ -4,8 +4,8 @@ ghost use Rattle.std.specs.Prelude.{◌≡◌, ◌+◌, ◌<◌};
 ghost use Rattle.mirror_ledger.specs.Asks.{AreUnused};
 
 use crate::asks::AskList;
-use crate::book::{BudgetName, Share};
 use crate::books::Shares;
+use mirror_books::{BudgetName, Share};
 use std::sync::ledger;
 
 /// The parts of the four ledgers that no worker has.

@@ -4,9 +4,9 @@ ghost use Rattle.std.specs.Prelude.{◌≡◌, ◌↔◌, ℕ, ◌<◌, ◌≤�
 ghost use Rattle.mirror_ledger.specs.Named.{are_rising, budget_at};
 ghost use Rattle.mirror_ledger.specs.Raising.{raise_at};
 
-use crate::book::{Book, BudgetName, Lower, Raiser};
 use crate::books::Books;
 use catalogue::Mirror;
+use mirror_books::{Book, BudgetName, Lower, Raiser};
 use std::alloc::{AllocError, Global};
 use std::marker::Model;
 use std::sync::{Mutex, Wait};

@@ -4,9 +4,9 @@ ghost use Rattle.std.specs.Prelude.{All, IsTrue, map};
 ghost use Rattle.mirror_ledger.specs.Asks.{AreGrantedBelow};
 ghost use Rattle.mirror_ledger.specs.Tills.{AreFull};
 
-use crate::book::BudgetName;
 use crate::till::Hand;
 use catalogue::Mirror;
+use mirror_books::BudgetName;
 
 /// The least bytes that were rejected, by the tills of all workers: each ask for fewer was granted.
 pub(crate) fn all_granted_below<A: BudgetName, B: BudgetName, C: BudgetName, D: BudgetName>(

@@ -10,7 +10,6 @@ ghost use Rattle.mirror_ledger.specs.Raising.{AreNamed};
 ghost use Rattle.mirror_ledger.specs.Running.{end_of, till_of};
 ghost use Rattle.mirror_ledger.specs.Tills.{AreTotalsOf, HadNoRoom, HasEnded, HaveWorked, IsFresh};
 
-use crate::book::BudgetName;
 use crate::books::Books;
 use crate::budgets::Treasurer;
 use crate::closing::close_tills;
@@ -22,6 +21,7 @@ use crate::run_error::RunError;
 use crate::till::{Hand, Till};
 use crate::working::tills_of;
 use catalogue::Mirror;
+use mirror_books::BudgetName;
 use std::alloc::{AllocError, Global};
 use std::marker::Brand;
 use std::sync::Wait;

@@ -5,9 +5,9 @@ ghost use Rattle.catalogue.specs.declared.mirror.Mirror.{Mirror};
 ghost use Rattle.mirror_ledger.specs.Asks.{AreTallied, Ask, booked};
 ghost use Rattle.mirror_ledger.specs.Order.{IsAlone, IsFirstWithRoom};
 
-use crate::book::BudgetName;
 use crate::books::{Books, Shares};
 use catalogue::Mirror;
+use mirror_books::BudgetName;
 use std::sync::Wait;
 
 /// What grants the bytes of update checks on mirrors.

@@ -7,12 +7,12 @@ ghost use Rattle.mirror_ledger.specs.Named.{AreFixed, AreTops, IsNamed, are_boun
 ghost use Rattle.mirror_ledger.specs.Order.{IsAlone};
 ghost use Rattle.mirror_ledger.specs.Tills.{AreOpened, AreTotalsOf};
 
-use crate::book::BudgetName;
 use crate::books::{Books, Shares};
 use crate::closing::close_tills;
 use crate::opening::{Blanks, Opened, open_books};
 use crate::till::{Hand, Till};
 use catalogue::Mirror;
+use mirror_books::BudgetName;
 use std::alloc::{AllocError, Global};
 use std::marker::Brand;
 use std::sync::Wait;

@@ -12,8 +12,8 @@ use Rattle.publisher.specs.Heard.{GoesOn}
 use Rattle.publisher.specs.Sights.{Allows, Sight, fresh}
 use Rattle.publisher.specs.Beginnings.{StartsWith}
 use Rattle.service_desks.specs.Workers.{Replies, stock_of}
-use Rattle.service_desks.specs.Answering.{IsReply}
-use Rattle.service_desks.specs.Asking.{AreGranted, GrantsFirst}
+use Rattle.replies.specs.Answering.{IsReply}
+use Rattle.replies.specs.Asking.{AreGranted, GrantsFirst}
 use Rattle.omaha_cli.specs.Answering.{IsRepliedAlone, RepliesFor}
 
 -- the asks of the only worker

@@ -9,8 +9,8 @@ use Rattle.omaha_json.specs.declared.request.Request.{Request}
 use Rattle.publisher.specs.Sights.{Sight}
 use Rattle.catalogue.specs.declared.mirror.Mirror.{Mirror}
 use Rattle.service_desks.specs.Workers.{Replies, stock_of as offered_by}
-use Rattle.service_desks.specs.Answering.{IsReply, Stock}
-use Rattle.service_desks.specs.Asking.{AreGranted}
+use Rattle.replies.specs.Answering.{IsReply, Stock}
+use Rattle.replies.specs.Asking.{AreGranted}
 use Rattle.omaha_cli.specs.declared.once.error.AnswerError.{AnswerError}
 use Rattle.service_desks.specs.declared.services.service.Service.{Service}
 

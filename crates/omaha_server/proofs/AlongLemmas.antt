@@ -12,7 +12,7 @@ use Rattle.publisher.specs.Sights.{Sight}
 use Rattle.catalogue.specs.declared.mirror.Mirror.{Mirror}
 use Rattle.service_desks.specs.Operators.{IsCall as IsOperatorCall}
 use Rattle.service_desks.specs.Workers.{IsCall, Progress}
-use Rattle.service_desks.specs.Asking.{GrantsFirst}
+use Rattle.replies.specs.Asking.{GrantsFirst}
 use Rattle.systems.specs.Edges.{Edges}
 use Rattle.package_files.specs.Lacking.{Sizes}
 use Rattle.omaha_server.specs.Checks.{ChecksCall, LeadsPast, sizes_at}

@@ -19,7 +19,7 @@ use Rattle.service_desks.specs.States.{Publication, State, Store, publication}
 use Rattle.service_desks.specs.Workers.{IsCall, Progress}
 use Rattle.streams.specs.Streams.{Known}
 use Rattle.streams.specs.Writing.{Breaks}
-use Rattle.service_desks.specs.Asking.{GrantsFirst}
+use Rattle.replies.specs.Asking.{GrantsFirst}
 use Rattle.systems.specs.Edges.{Edges}
 use Rattle.omaha_server.specs.Checks.{ChecksCall, IsStopped, LeadsPast, sizes_at}
 use Rattle.omaha_server.specs.Logging.{is_dash}

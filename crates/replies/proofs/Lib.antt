@@ -4,3 +4,6 @@ mod PinnedLemmas
 mod PlanLemmas
 mod ReplyLemmas
 mod ZipLemmas
+mod OrderLemmas
+mod AskLemmas
+mod AnswerLemmas

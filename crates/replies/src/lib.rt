@@ -6,19 +6,29 @@
 //! the plan and what the mirrors granted. Read `specs/Clients.antt` for who asks, `specs/Plans.antt` for what is chosen
 //! and `specs/Replies.antt` for the reply.
 //!
-//! It grants no bytes: crates above do. A client's track is that of `cohorts`, what is permitted on it that
-//! of `payload_graph`, and a reply's bytes those of `omaha_json`.
+//! `reply_to` does all of it. It asks a `Till` of `mirror_ledger` for each payload that the reply offers, and offers
+//! nothing that no mirror granted: read `specs/Asking.antt` and `specs/Answering.antt`. A counter is shown what each
+//! update check came to: read `specs/Counting.antt`.
+//!
+//! It grants no bytes itself. A client's track is that of `cohorts`, what is permitted on it that of `payload_graph`,
+//! and a reply's bytes those of `omaha_json`.
 
 #![tactic(auto)]
 
+mod asked;
+mod asking;
 mod checks;
 mod choices;
 mod client;
+mod counting;
 mod pinned;
 mod planning;
 mod rendering;
+mod update_checks;
 
+pub use crate::asked::Asked;
 pub use crate::choices::{Choice, Plan};
 pub use crate::client::Assignment;
 pub use crate::planning::{plan, plan_with};
 pub use crate::rendering::render;
+pub use crate::update_checks::reply_to;

@@ -1,8 +1,5 @@
-pub mod Answering
-pub mod Asking
 pub mod Attempts
 pub mod Builtin
-pub mod Counting
 pub mod Entries
 pub mod FaultStrings
 pub mod Following

@@ -15,7 +15,7 @@ use Rattle.publisher.specs.Sights.{Sight}
 use Rattle.catalogue.specs.Lookups.{declared_of}
 use Rattle.catalogue.specs.declared.mirror.Mirror.{Mirror}
 use Rattle.values.specs.declared.declared.Declared.{Declared}
-use Rattle.service_desks.specs.Answering.{HasBegun, IsReply, Stock}
+use Rattle.replies.specs.Answering.{HasBegun, IsReply, Stock}
 use Rattle.service_desks.specs.Entries.{Enters, FindsNoEntry}
 
 -- what a worker has seen or learnt, and what it has asked its mirrors for

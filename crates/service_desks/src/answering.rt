@@ -3,7 +3,7 @@
 ghost use Rattle.std.specs.Prelude.{◌≡◌};
 ghost use Rattle.http_desks.specs.Calls.{answer_in};
 ghost use Rattle.service_desks.specs.Workers.{IsAnswer};
-ghost use Rattle.service_desks.specs.Asking.{GrantsFirst};
+ghost use Rattle.replies.specs.Asking.{GrantsFirst};
 
 use crate::held_view::HeldView;
 use http_desks::{Answer, DeskStatus, Off};

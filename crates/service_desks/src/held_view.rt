@@ -2,15 +2,15 @@
 
 ghost use Rattle.std.specs.Prelude.{◌≡◌, MatchResult, Ok, Err};
 ghost use Rattle.service_desks.specs.Workers.{Finds, Replies};
-ghost use Rattle.service_desks.specs.Asking.{GrantsFirst};
+ghost use Rattle.replies.specs.Asking.{GrantsFirst};
 
-use crate::asked::Asked;
 use crate::kept_tables::KeptTables;
 use crate::replying::{find_by, reply_by};
 use http_desks::{Declared, Off};
 use mirror_ledger::Till;
 use omaha_json::Request;
 use publisher::View;
+use replies::Asked;
 use std::alloc::Global;
 use std::marker::Model;
 use std::sync::Wait;

@@ -3,15 +3,14 @@
 ghost use Rattle.std.specs.Prelude.{◌≡◌, MatchResult, Ok, Err};
 ghost use Rattle.service_desks.specs.Kept.{AreKept};
 ghost use Rattle.service_desks.specs.Workers.{Finds, Replies};
-ghost use Rattle.service_desks.specs.Asking.{GrantsFirst};
+ghost use Rattle.replies.specs.Asking.{GrantsFirst};
 
-use crate::asked::Asked;
 use crate::kept_tables::KeptTables;
 use crate::packages::find_package;
-use crate::update_checks::reply_to;
 use http_desks::{Declared, Off};
 use mirror_ledger::Till;
 use publisher::View;
+use replies::{Asked, reply_to};
 use std::alloc::Global;
 use std::sync::Wait;
 use tallies::CountChecks;

@@ -86,7 +86,7 @@ impl<'a, R: Wait + AllocGlobal, T: Till, C: CountChecks> Worker<'a, R, T, C> {
 impl<R: Wait + AllocGlobal, T: Till, C: CountChecks> Desk for Worker<'_, R, T, C> {
     ghost use Rattle.std.specs.Prelude.{◌≡◌};
     ghost use Rattle.service_desks.specs.Workers.{IsCall};
-    ghost use Rattle.service_desks.specs.Asking.{GrantsFirst};
+    ghost use Rattle.replies.specs.Asking.{GrantsFirst};
 
     ghost path = { λ _. codes "/service/update2/json" };
 

@@ -5,13 +5,13 @@ use Rattle.std.specs.Option.{is_none}
 use Rattle.std.proofs.lemmas.Bool.{and_from, cond-true, false≢true}
 use Rattle.catalogue.specs.Histories.{History}
 use Rattle.mirror_ledger.specs.Asks.{Ask, granted_at}
-use Rattle.mirror_ledger.specs.Budgets.{Account}
+use Rattle.mirror_books.specs.Budgets.{Account}
 use Rattle.omaha_json.specs.declared.request.Request.{Request}
 use Rattle.catalogue.specs.declared.content.App.{App}
 use Rattle.catalogue.specs.declared.mirror.Mirror.{Mirror}
 use Rattle.replies.specs.Replies.{AreOutcomes, IsOutcome}
 use Rattle.replies.specs.declared.choices.Choice.{Choice}
-use Rattle.service_desks.specs.Asking.{asks_of}
+use Rattle.replies.specs.Asking.{asks_of}
 use Rattle.theorems.specs.Calls.{AreForRoom, Break, Look, Reply, asks_events, events_of}
 use Rattle.theorems.specs.Choices.{Tables, are_certified, choices_of}
 use Rattle.theorems.specs.Events.{Drop, Enter, Event, Plan, Render, happens, run}

@@ -12,7 +12,7 @@ use Rattle.http_desks.specs.declared.desk.Off.{Off}
 use Rattle.http_desks.specs.declared.desk.Off.TheVariants as off
 use Rattle.kept_records.specs.declared.record.Kind.{Kind}
 use Rattle.kept_records.specs.declared.record.Kind.TheVariants as kind
-use Rattle.mirror_ledger.specs.Budgets.{Account}
+use Rattle.mirror_books.specs.Budgets.{Account}
 use Rattle.mirror_ledger.specs.Named.{budget_at}
 use Rattle.mirror_ledger.specs.Raising.{RaisesTo, has_name, raise_at}
 use Rattle.mirror_ledger.specs.declared.raise_error.RaiseError.{RaiseError}

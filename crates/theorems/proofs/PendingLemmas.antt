@@ -10,7 +10,7 @@ use Rattle.catalogue.specs.declared.content.App.{App}
 use Rattle.catalogue.specs.declared.mirror.Mirror.{Mirror}
 use Rattle.replies.specs.Replies.{AreOutcomes}
 use Rattle.replies.specs.declared.choices.Choice.{Choice}
-use Rattle.service_desks.specs.Asking.{asks_of}
+use Rattle.replies.specs.Asking.{asks_of}
 use Rattle.theorems.specs.Choices.{Tables}
 use Rattle.theorems.specs.Jobs.{Pending, bytes_asked, granted_to, outcomes_by_app}
 use Rattle.theorems.specs.Moves.{after_rejection, asks_next, begun, with_outcome}

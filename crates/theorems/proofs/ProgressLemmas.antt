@@ -13,7 +13,7 @@ use Rattle.publisher.specs.Beginnings.{StartsWith}
 use Rattle.publisher.specs.Heard.{GoesOn}
 use Rattle.publisher.specs.Sights.{Allows, Sight}
 use Rattle.catalogue.specs.declared.mirror.Mirror.{Mirror}
-use Rattle.service_desks.specs.Asking.{asks_of}
+use Rattle.replies.specs.Asking.{asks_of}
 use Rattle.service_desks.specs.Entries.{Enters, FindsNoEntry}
 use Rattle.service_desks.specs.Workers.{HasStatus, IsCall, Progress}
 use Rattle.theorems.proofs.WorkerLemmas.{granted-append}

@@ -13,7 +13,7 @@ use Rattle.catalogue.specs.Contents.{edits_of_content}
 use Rattle.catalogue.specs.Histories.{History}
 use Rattle.editions.specs.Editions.{content_of, content_or_none}
 use Rattle.mirror_ledger.specs.Asks.{Ask}
-use Rattle.mirror_ledger.specs.Budgets.{Account}
+use Rattle.mirror_books.specs.Budgets.{Account}
 use Rattle.omaha_json.specs.ReplyWriting.{reply_bytes}
 use Rattle.omaha_json.specs.declared.reply.AppReply.{AppReply}
 use Rattle.omaha_json.specs.declared.reply.AppState.TheVariants as state
@@ -34,8 +34,8 @@ use Rattle.replies.specs.Replies.{AreOutcomes, Decision, app_reply, check_reply,
 use Rattle.replies.specs.declared.choices.Choice.{Choice}
 use Rattle.service_desks.specs.Workers.{stock_of}
 use Rattle.theorems.specs.Laws.{PlansAreOne}
-use Rattle.service_desks.specs.Answering.{IsReply}
-use Rattle.service_desks.specs.Asking.{asks_of}
+use Rattle.replies.specs.Answering.{IsReply}
+use Rattle.replies.specs.Asking.{asks_of}
 use Rattle.theorems.specs.Jobs.{outcomes_of}
 use Rattle.theorems.specs.Moves.{rendered_at}
 use Rattle.theorems.specs.Restart.{DumpsAreProfiles, IsRaised, RestartsKeepReplies, ServicesOpenAgain}

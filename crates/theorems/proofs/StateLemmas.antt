@@ -8,12 +8,12 @@ use Rattle.std.proofs.lemmas.List.Sums.{sum_by-cons, sum_by_push}
 use Rattle.std.proofs.lemmas.Option.{none-some, same_Some}
 use Rattle.catalogue.specs.Histories.{History}
 use Rattle.mirror_ledger.specs.Asks.{Ask, booked, granted_at}
-use Rattle.mirror_ledger.specs.Budgets.{Account}
+use Rattle.mirror_books.specs.Budgets.{Account}
 use Rattle.mirror_ledger.specs.Order.{HasRoomAt, IsFirstWithRoom}
 use Rattle.omaha_json.specs.declared.request.Request.{Request}
 use Rattle.catalogue.specs.declared.mirror.Mirror.{Mirror}
 use Rattle.replies.specs.declared.choices.Choice.{Choice}
-use Rattle.service_desks.specs.Asking.{AreGranted}
+use Rattle.replies.specs.Asking.{AreGranted}
 use Rattle.theorems.specs.Calls.{AreForRoom, IsOfOneWorker, ask_events, asks_events, rejections}
 use Rattle.theorems.specs.Events.{Event, Grant, Reject, asks, decided, granted, happens, moved, rejected, run}
 use Rattle.theorems.specs.Jobs.{EndedJob, Pending, Worker, bytes_asked}

@@ -7,7 +7,7 @@ use Rattle.catalogue.specs.declared.edit.Edit.{Edit}
 use Rattle.catalogue.specs.declared.fault.Refused.{Refused}
 use Rattle.catalogue.specs.Histories.{History}
 use Rattle.editions.specs.Editions.{max_batches, outcome_after}
-use Rattle.mirror_ledger.specs.Budgets.{Account}
+use Rattle.mirror_books.specs.Budgets.{Account}
 use Rattle.omaha_json.specs.ReplyWriting.{reply_bytes}
 use Rattle.publisher.specs.declared.fault.PublishError.TheVariants as publishing
 use Rattle.catalogue.specs.declared.content.App.{App}
@@ -22,7 +22,7 @@ use Rattle.service_desks.specs.Scripts.{IsPublished, IsScriptReply, publish_repl
 use Rattle.service_desks.specs.Lines.{IsUnkept}
 use Rattle.service_desks.specs.States.{Publication, earlier_in, settled}
 use Rattle.service_desks.specs.Workers.{stock_of}
-use Rattle.service_desks.specs.Asking.{asks_of}
+use Rattle.replies.specs.Asking.{asks_of}
 use Rattle.theorems.specs.Events.{asks, granted, rejected}
 use Rattle.theorems.specs.Jobs.{Pending, bytes_asked, outcomes_by_app, outcomes_of}
 use Rattle.theorems.specs.Services.{is_published, published, with_budget}

@@ -13,7 +13,7 @@ use Rattle.http_desks.specs.declared.desk.DeskStatus.{DeskStatus}
 use Rattle.http_desks.specs.declared.desk.DeskStatus.TheVariants as status
 use Rattle.http_desks.specs.declared.desk.Off.TheVariants as off
 use Rattle.mirror_ledger.specs.Asks.{Ask, booked, granted_at}
-use Rattle.mirror_ledger.specs.Budgets.{Account}
+use Rattle.mirror_books.specs.Budgets.{Account}
 use Rattle.omaha_json.specs.ReplyWriting.{reply_bytes}
 use Rattle.omaha_json.specs.declared.fault.RequestFault.{RequestFault}
 use Rattle.omaha_json.specs.declared.request.Request.{Request}
@@ -23,8 +23,8 @@ use Rattle.catalogue.specs.declared.mirror.Mirror.{Mirror}
 use Rattle.replies.specs.Plans.{IsPlan, payloads_of}
 use Rattle.replies.specs.Replies.{reply_of}
 use Rattle.replies.specs.declared.choices.Choice.{Choice}
-use Rattle.service_desks.specs.Answering.{HasBegun, IsReply}
-use Rattle.service_desks.specs.Asking.{AsksFirst, asks_of}
+use Rattle.replies.specs.Answering.{HasBegun, IsReply}
+use Rattle.replies.specs.Asking.{AsksFirst, asks_of}
 use Rattle.service_desks.specs.Entries.{Enters, FindsNoEntry}
 use Rattle.service_desks.specs.Workers.{HasStatus, IsCall, Progress, stock_of}
 use Rattle.theorems.specs.Calls.{AreForRoom, Break, EntersPublished, HaveRoom, IsAfterCall, IsBetween, IsWork, LoneCallsAreForRoom, Look, Nothing, Reply as Replied, Sent, WorkerCallsAreEvents, events_of, sent_by, sent_for, sent_in, sent_to, sent_with}

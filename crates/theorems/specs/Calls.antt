@@ -8,14 +8,14 @@ use Rattle.http_desks.specs.declared.desk.DeskStatus.{DeskStatus}
 use Rattle.http_desks.specs.declared.desk.DeskStatus.TheVariants as status
 use Rattle.http_desks.specs.declared.desk.Off.{Off}
 use Rattle.mirror_ledger.specs.Asks.{Ask, granted_at}
-use Rattle.mirror_ledger.specs.Budgets.{Account}
+use Rattle.mirror_books.specs.Budgets.{Account}
 use Rattle.mirror_ledger.specs.Named.{budget_at}
 use Rattle.omaha_json.specs.ReplyWriting.{reply_bytes}
 use Rattle.omaha_json.specs.RequestReading.{request_of_bytes}
 use Rattle.omaha_json.specs.declared.fault.RequestFault.{RequestFault}
 use Rattle.omaha_json.specs.declared.request.Request.{Request}
 use Rattle.catalogue.specs.declared.mirror.Mirror.{Mirror}
-use Rattle.service_desks.specs.Asking.{GrantsFirst}
+use Rattle.replies.specs.Asking.{GrantsFirst}
 use Rattle.service_desks.specs.Entries.{Enters}
 use Rattle.service_desks.specs.Workers.{IsCall, Progress}
 use Rattle.theorems.specs.Choices.{Tables}

@@ -5,7 +5,7 @@ use Rattle.mirror_ledger.specs.Asks.{granted_at}
 use Rattle.omaha_json.specs.declared.reply.Reply.{Reply}
 use Rattle.omaha_json.specs.declared.request.Request.{Request}
 use Rattle.replies.specs.declared.choices.Choice.{Choice}
-use Rattle.service_desks.specs.Asking.{asks_of}
+use Rattle.replies.specs.Asking.{asks_of}
 
 -- a reply in the making: the request, the choice for each of its apps, the outcomes of the first choices that have
 -- one, in order, and how many mirrors had no room for the next choice

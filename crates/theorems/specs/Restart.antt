@@ -13,7 +13,7 @@ use Rattle.catalogue.specs.declared.mirror.Mirror.{Mirror}
 use Rattle.service_desks.specs.Operators.{IsCall, IsDump}
 use Rattle.service_desks.specs.States.{State, Store}
 use Rattle.service_desks.specs.Workers.{stock_of}
-use Rattle.service_desks.specs.Answering.{IsReply, Stock}
+use Rattle.replies.specs.Answering.{IsReply, Stock}
 use Rattle.theorems.specs.Jobs.{Pending}
 use Rattle.theorems.specs.Moves.{rendered_at}
 use Rattle.theorems.specs.Services.{Service, content_at, opened, present}

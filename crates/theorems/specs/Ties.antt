@@ -9,7 +9,7 @@ use Rattle.editions.specs.declared.fault.NextError.TheVariants as error
 use Rattle.http_desks.specs.Calls.{Call}
 use Rattle.http_desks.specs.declared.desk.DeskStatus.{DeskStatus}
 use Rattle.mirror_ledger.specs.Asks.{Ask}
-use Rattle.mirror_ledger.specs.Budgets.{Account, Grants, HasRoom, Raises}
+use Rattle.mirror_books.specs.Budgets.{Account, Grants, HasRoom, Raises}
 use Rattle.mirror_ledger.specs.Named.{budget_at}
 use Rattle.mirror_ledger.specs.Raising.{IsAt, RaisesTo}
 use Rattle.mirror_ledger.specs.declared.raise_error.RaiseError.{RaiseError}
@@ -27,8 +27,8 @@ use Rattle.service_desks.specs.Operators.{IsCall}
 use Rattle.service_desks.specs.Scripts.{Performs}
 use Rattle.service_desks.specs.States.{Publication, State, Store, earlier_in, settled}
 use Rattle.service_desks.specs.Workers.{Progress, Replies, stock_of}
-use Rattle.service_desks.specs.Answering.{IsReply, Stock}
-use Rattle.service_desks.specs.Asking.{asks_of}
+use Rattle.replies.specs.Answering.{IsReply, Stock}
+use Rattle.replies.specs.Asking.{asks_of}
 use Rattle.theorems.specs.Events.{Event, Grant, Publish, Raise, Reject, happens, run}
 use Rattle.theorems.specs.Jobs.{Pending, is_decided, outcomes_of}
 use Rattle.theorems.specs.InterleavingLaws.{IsReplyOf}

@@ -131,7 +131,7 @@ pub fn restart()
 }
 
 /// States what the contracts of `Edition::next`, `Press::publish`, `Book::grant`, `Book::raise`, `Budgets::raise`,
-/// `service_desks::reply_to`, a worker's desk and the operator's desk say by events and helpers of them.
+/// `replies::reply_to`, a worker's desk and the operator's desk say by events and helpers of them.
 ///
 /// The helpers say what is published, whether a book has room, which book it is after a grant or a raise, and what the
 /// reply of a job is. A raise by a name from the present mirrors is the event `Raise` of that mirror, or none; and each

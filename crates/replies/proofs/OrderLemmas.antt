@@ -2,7 +2,7 @@
 use Rattle.std.proofs.Common.{List, [], ◌∷◌, ◌++◌, append_assoc, append-nil, sym, ap, ◌∙◌, subst}
 use Rattle.catalogue.specs.declared.mirror.Mirror.{Mirror}
 use Rattle.mirror_ledger.specs.Asks.{Ask}
-use Rattle.service_desks.specs.Asking.{AreGranted, GrantsFirst}
+use Rattle.replies.specs.Asking.{AreGranted, GrantsFirst}
 
 AreGranted-append :
     (mirrors : List Mirror) (before xs ys : List Ask) →

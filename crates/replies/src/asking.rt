@@ -2,10 +2,10 @@
 
 ghost use Rattle.std.specs.Prelude.{◌≡◌, ◌++◌, IfOk, OnErr};
 ghost use Rattle.replies.specs.Replies.{IsOutcome};
-ghost use Rattle.service_desks.specs.Asking.{AsksFirst, AsksFor, GrantsFirst, asks_for};
+ghost use Rattle.replies.specs.Asking.{AsksFirst, AsksFor, GrantsFirst, asks_for};
 
+use crate::choices::Choice;
 use mirror_ledger::Till;
-use replies::Choice;
 use std::alloc::{AllocError, Global};
 use std::sync::Wait;
 

@@ -1,7 +1,7 @@
 //! The book of one mirror.
 
 ghost use Rattle.std.specs.Prelude.{◌≡◌, ◌↔◌, ℕ, ◌+◌, ◌-◌, ◌^◌, ◌<◌, ◌≤◌, IfErr, IsOk, OnOk, OnErr};
-ghost use Rattle.mirror_ledger.specs.Budgets.{Account, Grants, HasRoom, Raises, bytes_left};
+ghost use Rattle.mirror_books.specs.Budgets.{Account, Grants, HasRoom, Raises, bytes_left};
 
 use std::marker::{Brand, Model, PhantomData};
 use std::sync::ledger;
@@ -50,7 +50,7 @@ pub struct Book<P: BudgetName> {
 }
 
 impl<P: BudgetName> Model for Book<P> {
-    ghost use Rattle.mirror_ledger.specs.Budgets.{Account, IsKept};
+    ghost use Rattle.mirror_books.specs.Budgets.{Account, IsKept};
 
     ghost Value = { Account };
 
@@ -87,7 +87,7 @@ pub struct Raiser<P: BudgetName> {
 
 impl<P: BudgetName> Model for Raiser<P> {
     ghost use Rattle.std.specs.Prelude.{ℕ};
-    ghost use Rattle.mirror_ledger.specs.Budgets.{IsRaiser};
+    ghost use Rattle.mirror_books.specs.Budgets.{IsRaiser};
 
     ghost Value = { ℕ };
 
@@ -112,11 +112,7 @@ pub struct Lower {
 
 impl<P: BudgetName> Book<P> {
     /// Opens the book of a budget in bytes, and its ledger with all parts, and the raiser of the book.
-    pub(crate) fn open(
-        blank: Blank,
-        raises: Blank,
-        budget: u64,
-    ) -> (Book<P>, ledger::Share<P>, Raiser<P>)
+    pub fn open(blank: Blank, raises: Blank, budget: u64) -> (Book<P>, ledger::Share<P>, Raiser<P>)
         requires name { blank.name ≡ P.name }
         requires parts { blank.parts ≡ P.parts }
         requires raising { raises.name ≡ P.raising }
@@ -214,7 +210,7 @@ impl<P: BudgetName> Book<P> {
     }
 
     /// Returns the total, which is the amount of all parts of the ledger and within the present budget.
-    pub(crate) fn gather(&mut self, all: &mut ledger::Share<P>, raiser: &mut Raiser<P>) -> u64
+    pub fn gather(&mut self, all: &mut ledger::Share<P>, raiser: &mut Raiser<P>) -> u64
         requires { all.old.parts ≡ P.parts }
         ensures total { result ≡ all.old.amount }
         ensures raiser { raiser.new ≡ raiser.old }
@@ -228,7 +224,7 @@ impl<P: BudgetName> Book<P> {
 
 impl<P: BudgetName> Share<P> {
     /// Takes one part off the ledger's parts, with no amount.
-    pub(crate) fn split_from(rest: &mut ledger::Share<P>) -> Share<P>
+    pub fn split_from(rest: &mut ledger::Share<P>) -> Share<P>
         requires some { 0 < rest.old.parts }
         requires empty { rest.old.amount ≡ 0 }
         ensures share { result ≡ 0 }
@@ -241,7 +237,7 @@ impl<P: BudgetName> Share<P> {
     }
 
     /// Gives the part of the ledger.
-    pub(crate) fn into_mark(self) -> ledger::Share<P>
+    pub fn into_mark(self) -> ledger::Share<P>
         ensures parts { result.parts ≡ 1 }
         ensures amount { result.amount ≡ self }
     {

@@ -3,16 +3,17 @@
 ghost use Rattle.std.specs.Prelude.{◌≡◌, IfOk, OnErr};
 ghost use Rattle.editions.specs.Editions.{content_of};
 ghost use Rattle.par_tables.specs.Caches.{AreOwnTables};
-ghost use Rattle.service_desks.specs.Answering.{HasBegun, IsReply};
-ghost use Rattle.service_desks.specs.Asking.{GrantsFirst};
+ghost use Rattle.replies.specs.Answering.{HasBegun, IsReply};
+ghost use Rattle.replies.specs.Asking.{GrantsFirst};
 
 use crate::asked::Asked;
 use crate::asking::ask_each;
 use crate::counting::count_replied;
+use crate::planning::plan_with;
+use crate::rendering::render;
 use editions::Edition;
 use mirror_ledger::Till;
 use par_tables::TableCache;
-use replies::{plan_with, render};
 use std::alloc::{AllocError, Global};
 use std::sync::Wait;
 use tallies::CountChecks;

@@ -8,7 +8,7 @@ use Rattle.catalogue.specs.declared.mirror.Mirror.{Mirror}
 use Rattle.replies.specs.Plans.{IsPlan, payloads_of}
 use Rattle.replies.specs.Replies.{reply_of}
 use Rattle.replies.specs.declared.choices.Choice.{Choice}
-use Rattle.service_desks.specs.Asking.{AsksFirst, AsksFor}
+use Rattle.replies.specs.Asking.{AsksFirst, AsksFor}
 
 -- what is offered: the catalogue's content, and the mirrors of its packages
 pub record Stock : Type 0 where

@@ -6,7 +6,7 @@ use Rattle.catalogue.specs.declared.mirror.Mirror.{Mirror}
 use Rattle.mirror_ledger.specs.Asks.{Ask}
 use Rattle.replies.specs.Replies.{AreOutcomes, IsOutcome}
 use Rattle.replies.specs.declared.choices.Choice.{Choice}
-use Rattle.service_desks.specs.Asking.{AsksFirst, AsksFor, asks_for, asks_of}
+use Rattle.replies.specs.Asking.{AsksFirst, AsksFor, asks_for, asks_of}
 
 -- for no choice nothing is asked
 pub AsksFor-none : (mirrors : List Mirror) (asks : List Ask) → AsksFor mirrors [] [] asks asks

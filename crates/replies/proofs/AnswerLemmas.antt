@@ -4,9 +4,9 @@ use Rattle.mirror_ledger.specs.Asks.{Ask}
 use Rattle.omaha_json.specs.declared.request.Request.{Request}
 use Rattle.replies.specs.Plans.{IsPlan}
 use Rattle.replies.specs.declared.choices.Choice.{Choice}
-use Rattle.service_desks.specs.Answering.{HasBegun, Stock}
-use Rattle.service_desks.specs.Asking.{AsksFor}
-use Rattle.service_desks.proofs.AskLemmas.{AsksFirst-all}
+use Rattle.replies.specs.Answering.{HasBegun, Stock}
+use Rattle.replies.specs.Asking.{AsksFor}
+use Rattle.replies.proofs.AskLemmas.{AsksFirst-all}
 
 -- what holds anyway holds at an error
 pub OnErr-always : {A E : Type 0} {P : Type 0} (result : Result A E) → P → OnErr result P

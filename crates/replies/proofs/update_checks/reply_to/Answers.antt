@@ -1,7 +1,7 @@
 use Rattle.editions.specs.Editions.{content_of}
-use Rattle.service_desks.specs.Answering.{Stock}
-use Rattle.service_desks.proofs.AnswerLemmas.{HasBegun-all, OnErr-always}
-use Rattle.service_desks.proofs.update_checks.reply_to.Goals as goal
+use Rattle.replies.specs.Answering.{Stock}
+use Rattle.replies.proofs.AnswerLemmas.{HasBegun-all, OnErr-always}
+use Rattle.replies.proofs.update_checks.reply_to.Goals as goal
 
 pub returns-clause-err : goal.returns-clause-err
 returns-clause-err g c =

@@ -1,11 +1,12 @@
 //! What the update checks of a request came to.
 
 ghost use Rattle.std.specs.Prelude.{◌≡◌};
-ghost use Rattle.service_desks.specs.Counting.{check_at, check_of, grant_of, kind_of, replied_check, track_of};
+ghost use Rattle.replies.specs.Counting.{check_at, check_of, grant_of, kind_of, replied_check, track_of};
 
+use crate::choices::{Choice, Plan};
+use crate::client::Assignment;
 use omaha_json::{AppAsk, Request};
 use payload_graph::Payload;
-use replies::{Assignment, Choice, Plan};
 use tallies::{Check, CountChecks, Grant, Kind, Track};
 
 // The kind of a payload.

@@ -1,7 +1,7 @@
 use Rattle.std.proofs.Common.{◌≡◌, true, not, is_ok, refl, ap, ◌∙◌}
-use Rattle.service_desks.proofs.AskLemmas.{AsksFirst-none, AsksFirst-take, AsksFor-next, AsksFor-none}
-use Rattle.service_desks.proofs.OrderLemmas.{GrantsFirst-none, alone-trans}
-use Rattle.service_desks.proofs.asking.ask_each.Goals as goal
+use Rattle.replies.proofs.AskLemmas.{AsksFirst-none, AsksFirst-take, AsksFor-next, AsksFor-none}
+use Rattle.replies.proofs.OrderLemmas.{GrantsFirst-none, alone-trans}
+use Rattle.replies.proofs.asking.ask_each.Goals as goal
 
 pub returns-in_default-clause-err : goal.returns-in_default-clause-err
 returns-in_default-clause-err g c =

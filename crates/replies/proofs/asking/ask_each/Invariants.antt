@@ -1,7 +1,7 @@
 -- The first choices were asked for; a till that is alone granted them on the first mirrors with room.
 use Rattle.std.proofs.Common.{◌≡◌, take}
-use Rattle.service_desks.specs.Asking.{AsksFor, GrantsFirst}
-use Rattle.service_desks.proofs.asking.ask_each.Given as goal
+use Rattle.replies.specs.Asking.{AsksFor, GrantsFirst}
+use Rattle.replies.proofs.asking.ask_each.Given as goal
 
 abbrev pub invariant-loop-choice : goal.invariant-loop-choice
 invariant-loop-choice g l = record {
