@@ -9,6 +9,9 @@ started, and sums them in the end: processor minutes for the proofs of libraries
 first of a crate proves the crate again) and for the programs, and the most expensive crates of each. Where other work
 runs beside it, the same checks take more processor time.
 
+Processors differ: one took half of another's time for each check. So it first times a fixed loop, and prints what that
+took beside the sums: divide them by it to compare two machines.
+
 It exits with its status, whose last line it repeats.
 """
 
@@ -24,6 +27,15 @@ import time
 TOP = pathlib.Path(__file__).resolve().parent.parent
 TICKS = os.sysconf("SC_CLK_TCK")
 KINDS = ("proof", "tests", "edits", "program")
+STEPS = 20_000_000
+
+
+def loop_seconds():
+    """The processor seconds of a fixed loop."""
+    began, total = time.process_time(), 0
+    for step in range(STEPS):
+        total += step * step % 7
+    return time.process_time() - began
 
 
 def read(path):
@@ -90,12 +102,13 @@ def main():
     parser.add_argument("--log", default=os.path.join(tempfile.gettempdir(), "gate.log"))
     parser.add_argument("--top", type=int, default=10)
     options = parser.parse_args()
+    loop = loop_seconds()
     began = time.time()
     with open(options.log, "w", encoding="utf-8") as log:
         gate = subprocess.Popen(["rt", "ci", "--anew"], cwd=TOP, stdin=subprocess.DEVNULL, stdout=log, stderr=subprocess.STDOUT)
         sums = watch(gate)
     print(f"{(time.time() - began) / 60:.1f} minutes on {len(os.sched_getaffinity(0))} processors")
-    print(f"{sum(sums.values()) / 60:8.1f} processor minutes in all")
+    print(f"{sum(sums.values()) / 60:8.1f} processor minutes in all, where a loop of {STEPS} steps takes {loop:.1f} s")
     for kind in KINDS:
         own = {crate: seconds for (of, crate), seconds in sums.items() if of == kind}
         print(f"{sum(own.values()) / 60:8.1f} {kind} ({len(own)} crates)")

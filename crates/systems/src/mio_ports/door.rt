@@ -1,8 +1,11 @@
 // Where the connections of a port come from.
 
 use crate::mio_ports::listener::Listener;
+use crate::mio_ports::port::LISTENER;
 use crate::mio_ports::sign::EndSign;
 use mio::net::TcpStream;
+use mio::unix::SourceFd;
+use mio::{Interest, Registry, Token};
 use std::alloc::Global;
 use std::io::ErrorKind;
 use std::net::{IpAddr, SocketAddr};
@@ -48,6 +51,20 @@ impl<'a> Door<'a> {
     /// Notes that the listener may have a connection.
     pub(crate) fn knock(&mut self) {
         self.knocks = true;
+    }
+
+    /// Has the system report the listener anew, if it has a connection.
+    pub(crate) fn ask(&mut self, registry: &Registry) {
+        let Some(listener) = &self.listener else {
+            return;
+        };
+        let fd = listener.raw_fd();
+        let asked = registry.reregister(
+            &mut SourceFd(&fd),
+            Token(LISTENER),
+            Interest::READABLE,
+        );
+        self.knocks = asked.is_err();
     }
 
     /// Has the listener looked at again, if it failed.

@@ -118,6 +118,10 @@ impl<R: Wait + Clock> MioPort<'_, R> {
                 self.drained.accepted(slot);
                 self.book.accept(slot, stream);
                 self.accepted = accepted;
+                // no idle connection makes room for one that may not be there
+                if self.free.len() == 0 {
+                    self.door.ask(self.poll.registry());
+                }
                 Some(Event::Accepted(slot))
             }
             None => {
