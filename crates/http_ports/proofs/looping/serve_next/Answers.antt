@@ -1,4 +1,4 @@
-use Rattle.std.proofs.Common.{◌≡◌, ◌∙◌, refl, subst, ap, arith}
+use Rattle.std.proofs.Common.{◌≡◌, ◌∙◌, refl, rules, subst, ap, arith}
 use Rattle.std.specs.Prelude.{IfSome}
 use Rattle.http_ports.specs.Loops.{all_rest, counts_of, kept_at, rest_but}
 use Rattle.http_ports.specs.Speech.{speech_at}
@@ -8,6 +8,9 @@ use Rattle.http_ports.proofs.looping.serve_next.Goals as goal
 
 pub serve_slot-requires-clause-live : goal.serve_slot-requires-clause-live
 serve_slot-requires-clause-live g c = (no_traffic, ap (λ (slot : Slot). slot.current) c.in-Accepted.ensures.reports.2)
+
+pub returns-in-Accepted-clause-over : goal.returns-in-Accepted-clause-over
+returns-in-Accepted-clause-over g c = search rules
 
 pub returns-in-Accepted-clause-works : goal.returns-in-Accepted-clause-works
 returns-in-Accepted-clause-works g c = λ start lost works.

@@ -1,8 +1,11 @@
-use Rattle.std.proofs.Common.{◌∙◌, refl, sym, ap, arith}
+use Rattle.std.proofs.Common.{◌∙◌, refl, rules, sym, ap, arith}
 use Rattle.http_ports.specs.Loops.{all_rest, kept_at}
 use Rattle.http_ports.specs.Speech.{speech_at}
 use Rattle.http_ports.proofs.WorkLemmas.{capacity_of, Works-counted, Works-ended, Works-resting}
 use Rattle.http_ports.proofs.looping.serve_slot.Goals as goal
+
+pub returns-in_default-clause-works : goal.returns-in_default-clause-works
+returns-in_default-clause-works g c = search rules
 
 pub returns-in-Ok-clause-works : goal.returns-in-Ok-clause-works
 returns-in-Ok-clause-works g c = λ start lost works.
