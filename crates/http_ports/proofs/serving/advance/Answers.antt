@@ -1,3 +1,5 @@
+use Rattle.std.proofs.Common.{arith}
+use Rattle.std.proofs.lemmas.Grind.{common_steps}
 use Rattle.http_ports.specs.Speech.{speech_at}
 use Rattle.http_ports.specs.Steps.{IsStep}
 use Rattle.http_ports.specs.Traffic.{timing}
@@ -47,3 +49,9 @@ pull-requires-clause-live g c =
 pub returns-in-Over-clause-live : goal.returns-in-Over-clause-live
 returns-in-Over-clause-live g c =
     stays_open c.args.slot (timing c.timestamp-seconds.result _) c.timestamp-seconds.ensures.noted c.requires.live
+
+pub go_on-requires-clause-sent : goal.go_on-requires-clause-sent
+go_on-requires-clause-sent g c = grind (arith, common_steps)
+
+pub returns-in-Over-clause-serves : goal.returns-in-Over-clause-serves
+returns-in-Over-clause-serves g c = grind (arith, common_steps)
