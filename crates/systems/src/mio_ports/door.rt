@@ -59,11 +59,7 @@ impl<'a> Door<'a> {
             return;
         };
         let fd = listener.raw_fd();
-        let asked = registry.reregister(
-            &mut SourceFd(&fd),
-            Token(LISTENER),
-            Interest::READABLE,
-        );
+        let asked = registry.reregister(&mut SourceFd(&fd), Token(LISTENER), Interest::READABLE);
         self.knocks = asked.is_err();
     }
 

@@ -23,8 +23,33 @@ pub(crate) const LISTENER: usize = 1 << 40;
 // How many events the system reports at a time.
 pub(crate) const EVENTS: usize = 256;
 
+/// What is kept of each slot beside the book.
+pub(crate) struct SlotLists {
+    // the slots that are to be reported, and those without a connection
+    pub(crate) ready: WaitingList,
+    pub(crate) free: WaitingList,
+    // the address of each slot's peer
+    pub(crate) peers: Vec<Option<IpAddr>>,
+    // how long connections have waited
+    pub(crate) times: Times,
+    // the slots at which nothing is to be read
+    pub(crate) drained: DrainedList,
+}
+
+// Written out, so that no caller proves again how each part is dropped.
+impl Drop for SlotLists {
+    fn drop(self) {
+        let SlotLists {
+            ready: _,
+            free: _,
+            peers: _,
+            times: _,
+            drained: _,
+        } = self;
+    }
+}
+
 /// A port over a listener, which other ports may share, and the sockets that it accepted.
-#[derive(Drop)]
 pub struct MioPort<'a, R: Wait> {
     pub(crate) rt: &'a R,
     pub(crate) door: Door<'a>,
@@ -32,28 +57,42 @@ pub struct MioPort<'a, R: Wait> {
     pub(crate) events: Events,
     // what is kept of each slot, and what has passed there
     pub(crate) book: Book<TcpStream>,
-    // the slots that are to be reported, and those without a connection
-    pub(crate) ready: WaitingList,
-    pub(crate) free: WaitingList,
-    // how many of those that are ready are reported before the system is asked again
+    pub(crate) lists: SlotLists,
+    // how many of the slots that are ready are reported before the system is asked again
     pub(crate) turns: usize,
-    // the address of each slot's peer
-    pub(crate) peers: Vec<Option<IpAddr>>,
     // what it serves by, and how many connections were accepted
     pub(crate) terms: Terms,
     pub(crate) accepted: u64,
-    // how long connections have waited, since the start
-    pub(crate) times: Times,
+    // when connections began to wait
     pub(crate) start: Instant,
     // whether the slots are to be looked at for late connections, and the first one that isn't yet
     pub(crate) is_due: bool,
     pub(crate) looked: usize,
     pub(crate) lingering: LingeringList,
-    // the slots at which nothing is to be read
-    pub(crate) drained: DrainedList,
     ghost few: { accepted ≤ terms.limit },
     ghost sized: { vec_len book.places ≡ terms.capacity },
     ghost counted: { accepted ≡ accepted_in book.moves },
+}
+
+// Written out, so that no caller proves again how each part is dropped.
+impl<R: Wait> Drop for MioPort<'_, R> {
+    fn drop(self) {
+        let MioPort {
+            rt: _,
+            door: _,
+            poll: _,
+            events: _,
+            book: _,
+            lists: _,
+            turns: _,
+            terms: _,
+            accepted: _,
+            start: _,
+            is_due: _,
+            looked: _,
+            lingering: _,
+        } = self;
+    }
 }
 
 // A list of all slots.
@@ -68,6 +107,24 @@ fn all_slots(alloc: Global, slots: usize) -> Result<WaitingList, AllocError> {
 // So many addresses, none of which is known.
 fn addresses(alloc: Global, slots: usize) -> Result<Vec<Option<IpAddr>>, AllocError> {
     vec![in alloc; None; slots]
+}
+
+impl SlotLists {
+    // So many slots, all without a connection.
+    fn new(alloc: Global, slots: usize) -> Option<SlotLists> {
+        let ready = WaitingList::new(alloc, slots).ok()?;
+        let free = all_slots(alloc, slots).ok()?;
+        let peers = addresses(alloc, slots).ok()?;
+        let times = Times::new(alloc, slots).ok()?;
+        let drained = DrainedList::new(alloc, slots).ok()?;
+        Some(SlotLists {
+            ready,
+            free,
+            peers,
+            times,
+            drained,
+        })
+    }
 }
 
 impl<'a, R: Wait> MioPort<'a, R> {
@@ -96,12 +153,8 @@ impl<'a, R: Wait + Net + Clock + AllocGlobal> MioPort<'a, R> {
         let alloc = rt.alloc();
         let slots = terms.capacity;
         let book = Book::new(alloc, slots).ok()?;
-        let ready = WaitingList::new(alloc, slots).ok()?;
-        let free = all_slots(alloc, slots).ok()?;
-        let peers = addresses(alloc, slots).ok()?;
-        let times = Times::new(alloc, slots).ok()?;
+        let lists = SlotLists::new(alloc, slots)?;
         let lingering = LingeringList::new(alloc).ok()?;
-        let drained = DrainedList::new(alloc, slots).ok()?;
         let events = Events::with_capacity(alloc, EVENTS).ok()?;
         let poll = Poll::new(rt).ok()?;
         let start = Instant::now(rt).ok()?;
@@ -115,18 +168,14 @@ impl<'a, R: Wait + Net + Clock + AllocGlobal> MioPort<'a, R> {
             poll,
             events,
             book,
-            ready,
-            free,
+            lists,
             turns: 0,
-            peers,
             terms,
             accepted: 0,
-            times,
             start,
             is_due: false,
             looked: slots,
             lingering,
-            drained,
         })
     }
 }

@@ -20,7 +20,7 @@ impl<R: Wait + Clock> MioPort<'_, R> {
         ensures terms { self.new.terms ≡ self.old.terms }
     {
         for _ in 0..self.book.capacity() {
-            let slot = self.ready.pop()?;
+            let slot = self.lists.ready.pop()?;
             if slot < self.book.capacity() && self.book.waits(slot).is_some() {
                 return Some(slot);
             }
@@ -36,7 +36,7 @@ impl<R: Wait + Clock> MioPort<'_, R> {
         ensures terms { self.new.terms ≡ self.old.terms }
     {
         for _ in 0..self.book.capacity() {
-            let slot = self.free.pop()?;
+            let slot = self.lists.free.pop()?;
             if slot < self.book.capacity() && self.book.waits(slot).is_none() {
                 return Some(slot);
             }
@@ -63,7 +63,7 @@ impl<R: Wait + Clock> MioPort<'_, R> {
         ensures terms { self.new.terms ≡ self.old.terms }
     {
         let (mut stream, peer) = self.door.accept()?;
-        if let Some(address) = self.peers.get_mut(slot) {
+        if let Some(address) = self.lists.peers.get_mut(slot) {
             *address = peer;
         }
         let both = Interest::READABLE | Interest::WRITABLE;
@@ -114,18 +114,18 @@ impl<R: Wait + Clock> MioPort<'_, R> {
         let slot = self.take_free()?;
         match self.accept_at(slot) {
             Some(stream) => {
-                self.times.accepted(slot);
-                self.drained.accepted(slot);
+                self.lists.times.accepted(slot);
+                self.lists.drained.accepted(slot);
                 self.book.accept(slot, stream);
                 self.accepted = accepted;
                 // no idle connection makes room for one that may not be there
-                if self.free.len() == 0 {
+                if self.lists.free.len() == 0 {
                     self.door.ask(self.poll.registry());
                 }
                 Some(Event::Accepted(slot))
             }
             None => {
-                self.free.push(slot);
+                self.lists.free.push(slot);
                 None
             }
         }
@@ -151,8 +151,8 @@ impl<R: Wait + Clock> MioPort<'_, R> {
     {
         match self.book.waits(slot) {
             Some(true) => {
-                self.times.is_late(slot, &self.terms)
-                    || (self.door.is_ending && self.times.is_free(slot))
+                self.lists.times.is_late(slot, &self.terms)
+                    || (self.door.is_ending && self.lists.times.is_free(slot))
             }
             _ => false,
         }
@@ -184,7 +184,7 @@ impl<R: Wait + Clock> MioPort<'_, R> {
         let mut longest = None;
         let mut first = u64::MAX;
         for slot in 0..self.book.capacity() {
-            let since = self.times.idle_since(slot).unwrap_or(u64::MAX);
+            let since = self.lists.times.idle_since(slot).unwrap_or(u64::MAX);
             if since < first && self.book.waits(slot) == Some(true) {
                 first = since;
                 longest = Some(slot);
@@ -201,7 +201,7 @@ impl<R: Wait + Clock> MioPort<'_, R> {
         ensures accepted { accepted_in self.new.book.moves ≡ accepted_in self.old.book.moves + accepted_of result }
         ensures terms { self.new.terms ≡ self.old.terms }
     {
-        if !self.may_accept() || self.free.len() > 0 {
+        if !self.may_accept() || self.lists.free.len() > 0 {
             return None;
         }
         let slot = self.longest_idle()?;

@@ -21,8 +21,8 @@ impl<R: Wait + Clock> MioPort<'_, R> {
             return;
         };
         let now = passed.as_secs();
-        if now != self.times.now {
-            self.times.now = now;
+        if now != self.lists.times.now {
+            self.lists.times.now = now;
             self.is_due = true;
             self.door.retry();
         }
@@ -31,9 +31,9 @@ impl<R: Wait + Clock> MioPort<'_, R> {
     // How many milliseconds the sockets are waited for: none if there is something to do without them, and few if the
     // port is to end, or ends once no connection lingers.
     fn pause(&self) -> u64 {
-        let accepts = self.may_accept() && self.free.len() > 0;
+        let accepts = self.may_accept() && self.lists.free.len() > 0;
         let lingers = !self.lingering.is_empty() && self.accepted == self.terms.limit;
-        if accepts || self.ready.len() > 0 {
+        if accepts || self.lists.ready.len() > 0 {
             0
         } else if self.door.is_ending || lingers {
             10
@@ -65,11 +65,11 @@ impl<R: Wait + Clock> MioPort<'_, R> {
             if token == LISTENER {
                 self.door.knock();
             } else {
-                self.ready.push(token);
-                self.drained.reported(token, event.is_read_closed());
+                self.lists.ready.push(token);
+                self.lists.drained.reported(token, event.is_read_closed());
             }
         }
-        self.turns = self.ready.len();
+        self.turns = self.lists.ready.len();
         self.note_time();
         self.note_sign();
         // with no room left the system may have more to report, of a connection that would be late
@@ -77,7 +77,7 @@ impl<R: Wait + Clock> MioPort<'_, R> {
             self.is_due = false;
             self.looked = 0;
         }
-        let now = self.times.now;
+        let now = self.lists.times.now;
         self.lingering.drop_inputs(now);
     }
 }
@@ -104,7 +104,7 @@ impl<R: Wait + Clock> Port for MioPort<'_, R> {
     ghost is_over = { λ port. (accepted_in port.book.moves ≡ port.terms.limit) ⊎ (port.door.is_ending ≡ true) };
 
     fn peer(&self, slot: usize) -> Option<IpAddr> {
-        *self.peers.get(slot)?
+        *self.lists.peers.get(slot)?
     }
 
     fn terms(&self) -> Terms {
@@ -135,16 +135,16 @@ impl<R: Wait + Clock> Port for MioPort<'_, R> {
     }
 
     fn read(&mut self, slot: usize, into: &mut [u8]) -> Received {
-        let received = if self.drained.has(slot) {
+        let received = if self.lists.drained.has(slot) {
             Received::Nothing
         } else {
             read_stream(self.book.stream(slot), into)
         };
         note_read(&mut self.book, slot, into, received);
         if let Received::Bytes(count) = received {
-            self.times.read(slot);
+            self.lists.times.read(slot);
             if count < into.len() {
-                self.drained.read(slot);
+                self.lists.drained.read(slot);
             }
         }
         received
@@ -154,8 +154,8 @@ impl<R: Wait + Clock> Port for MioPort<'_, R> {
         let sent = write_stream(self.book.stream(slot), bytes);
         note_write(&mut self.book, slot, bytes, sent);
         match sent {
-            Sent::Bytes(_) => self.times.written(slot),
-            Sent::Nothing => self.times.held(slot),
+            Sent::Bytes(_) => self.lists.times.written(slot),
+            Sent::Nothing => self.lists.times.held(slot),
             Sent::Failure => {}
         }
         sent
@@ -163,17 +163,17 @@ impl<R: Wait + Clock> Port for MioPort<'_, R> {
 
     fn again(&mut self, slot: usize) {
         self.book.change(slot, Change::Marked(Last::Yields), false);
-        self.ready.push(slot);
+        self.lists.ready.push(slot);
     }
 
     fn close(&mut self, slot: usize) {
         if let Some(stream) = self.book.close(slot) {
-            let now = self.times.now;
+            let now = self.lists.times.now;
             self.lingering.close(stream, now);
         }
-        if let Some(address) = self.peers.get_mut(slot) {
+        if let Some(address) = self.lists.peers.get_mut(slot) {
             *address = None;
         }
-        self.free.push(slot);
+        self.lists.free.push(slot);
     }
 }
