@@ -1,6 +1,6 @@
 // Items that are found by what names them.
 
-use crate::out_of_memory_tests::catalogue_of;
+use crate::profile_out_of_memory_tests::catalogue_of;
 use catalogue::{Catalogue, Version};
 
 // Two apps, the second one with its higher release first.
