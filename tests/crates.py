@@ -2,9 +2,10 @@
 """Checks the list of crates, `crates/README.md`: each crate by its group, with the first sentence of its own page.
 
 The groups and their order are those of `crates.txt`, and the sentence is the first one of `src/lib.rt`, or of
-`src/main.rt`. Each folder of `crates/` is in `crates.txt`, and each name there has its folder.
+`src/main.rt`. Each folder of `crates/` is in `crates.txt`, and each name there has its folder. The line of a crate there
+has each crate that its files name, in code, contracts and proofs: else its proof fails, long after.
 
-    tests/crates.py            checks that the list is the one that they give
+    tests/crates.py            checks that the list is the one that they give, and the lines of `crates.txt`
     tests/crates.py --write    writes it
 """
 
@@ -20,6 +21,18 @@ HEAD = """# Crates
 Lowest first: a crate depends on crates of its own group and of those above it in this list. `docs/ARCHITECTURE.md` says
 how they work together. This list is written by `tests/crates.py --write`.
 """
+
+
+NAMED = re.compile(r"\bRattle\.(\w+)|^ *(?:pub )?use (\w+)::", re.M)
+
+
+def missing():
+    """What is missing in the lines of `crates.txt`: a crate, and one that its files name."""
+    lines = dict(re.findall(r"^(\w+):(.*)$", (TOP / "crates.txt").read_text(encoding="utf-8"), re.M))
+    for crate, listed in lines.items():
+        files = [file for part in ("src", "specs", "proofs") for file in (CRATES / crate / part).rglob("*.*t")]
+        named = {name for file in files for name in sum(NAMED.findall(file.read_text(encoding="utf-8")), ())}
+        yield from ((crate, name) for name in sorted(named & set(lines) - {crate, *listed.split()}))
 
 
 def groups():
@@ -60,6 +73,11 @@ def main():
     for crate in sorted(named ^ folders):
         print(f"tests/crates.py: {crate}: in crates.txt or in crates/, and not in both")
     if named != folders:
+        return 1
+    lacks = list(missing())
+    for crate, name in lacks:
+        print(f"crates.txt: {crate} names {name}, which isn't in its line")
+    if lacks:
         return 1
     page = page_of(found)
     if sys.argv[1:] == ["--write"]:
