@@ -21,8 +21,7 @@ HEAD = """# Crates
 Lowest first: a crate depends on crates of its own group and of those above it in this list. `docs/ARCHITECTURE.md` says
 how they work together. This list is written by `tests/crates.py --write`.
 """
-
-
+# a crate's name, as definitions and code import from it
 NAMED = re.compile(r"\bRattle\.(\w+)|^ *(?:pub )?use (\w+)::", re.M)
 
 
