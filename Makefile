@@ -47,7 +47,7 @@ test:
 	tests/corpus.py
 	tests/edits.py
 	docs/pictures/draw.py --check
-	rt ci
+	packaging/build.py --gate
 	tests/rows.py
 	tests/idle.py --only few --size 8
 

@@ -3,8 +3,8 @@
 
     bench/gate.py [--log FILE] [--top N]
 
-It runs `rt ci --anew` at the top of the repository, which proves all again, with its output in FILE, by default
-`gate.log` in the folder for temporary files. Four times a second it reads the clocks of the checks that this has
+It runs `rt ci` at the top of the repository, by `rt ci --anew` if the toolchain keeps what it proved and has that flag, so
+that all is proved from nothing. The output goes to FILE, by default `gate.log` in the folder for temporary files. Four times a second it reads the clocks of the checks that this has
 started, and sums them in the end: processor minutes for the proofs of libraries, of tests, for the must-fail edits (the
 first of a crate proves the crate again) and for the programs, and the most expensive crates of each. Where other work
 runs beside it, the same checks take more processor time.
@@ -19,6 +19,7 @@ import argparse
 import collections
 import os
 import pathlib
+import re
 import subprocess
 import sys
 import tempfile
@@ -28,6 +29,8 @@ TOP = pathlib.Path(__file__).resolve().parent.parent
 TICKS = os.sysconf("SC_CLK_TCK")
 KINDS = ("proof", "tests", "edits", "program")
 STEPS = 20_000_000
+# the last line of a gate that ran
+ENDED = re.compile(r"\d+ passed, \d+ failed")
 
 
 def loop_seconds():
@@ -97,6 +100,15 @@ def watch(gate):
     return sums
 
 
+def run(words, log):
+    """Runs the gate with its output in a file: its status, its last line, and the seconds of its checks."""
+    with open(log, "w", encoding="utf-8") as output:
+        gate = subprocess.Popen(words, cwd=TOP, stdin=subprocess.DEVNULL, stdout=output, stderr=subprocess.STDOUT)
+        sums = watch(gate)
+    last = pathlib.Path(log).read_text(encoding="utf-8").rstrip("\n").rpartition("\n")[2]
+    return gate.returncode, last, sums
+
+
 def main():
     parser = argparse.ArgumentParser(description=__doc__, formatter_class=argparse.RawDescriptionHelpFormatter)
     parser.add_argument("--log", default=os.path.join(tempfile.gettempdir(), "gate.log"))
@@ -104,9 +116,10 @@ def main():
     options = parser.parse_args()
     loop = loop_seconds()
     began = time.time()
-    with open(options.log, "w", encoding="utf-8") as log:
-        gate = subprocess.Popen(["rt", "ci", "--anew"], cwd=TOP, stdin=subprocess.DEVNULL, stdout=log, stderr=subprocess.STDOUT)
-        sums = watch(gate)
+    status, last, sums = run(["rt", "ci", "--anew"], options.log)
+    if not ENDED.fullmatch(last):
+        # a toolchain without the flag keeps nothing
+        status, last, sums = run(["rt", "ci"], options.log)
     print(f"{(time.time() - began) / 60:.1f} minutes on {len(os.sched_getaffinity(0))} processors")
     print(f"{sum(sums.values()) / 60:8.1f} processor minutes in all, where a loop of {STEPS} steps takes {loop:.1f} s")
     for kind in KINDS:
@@ -115,8 +128,8 @@ def main():
     print(f"the most expensive {options.top}, in processor seconds:")
     for (kind, crate), seconds in sums.most_common(options.top):
         print(f"{seconds:8.0f} {kind} of {crate}")
-    print(pathlib.Path(options.log).read_text(encoding="utf-8").rstrip("\n").rpartition("\n")[2])
-    return gate.returncode
+    print(last)
+    return status
 
 
 if __name__ == "__main__":

@@ -1,13 +1,16 @@
 #!/usr/bin/env python3
-"""Proves and builds the program: packaging/build.py [--jobs N]
+"""Proves and builds the program: packaging/build.py [--jobs N | --gate]
 
 `make install` runs it. It copies the crates that the program is made of, without their mutants, to a new folder, and
-runs `rt ci` there, which proves several crates side by side, those first that most others wait for, and takes as proved
-what an earlier run on this machine proved of the same files. So after `make test` nothing is proved again. `--jobs` is
-how many processors it uses, else all. The program is then `crates/omaha/out/omaha`, as after `make test`.
+runs `rt ci` there, which proves several crates side by side, those first that most others wait for. `--jobs` is how many
+processors it uses, else all. The program is then `crates/omaha/out/omaha`, as after `make test`.
+
+With --gate it runs the gate, `rt ci` at the top, as `make test` does. What a run has proved and built is noted beside the
+program: by which toolchain, from which files. If all of these are as noted, a later `make install` proves nothing.
 """
 
 import argparse
+import hashlib
 import os
 import pathlib
 import shutil
@@ -17,6 +20,10 @@ import tempfile
 
 TOP = pathlib.Path(__file__).resolve().parent.parent
 PROGRAM = "omaha"
+BUILT = TOP / "crates" / PROGRAM / "out" / PROGRAM
+NOTE = BUILT.with_name("made-of")
+# what no program is made of
+APART = shutil.ignore_patterns("out", "must-fail")
 
 
 def lines_of(crates):
@@ -45,23 +52,65 @@ def copy(room):
     (room / "crates.txt").write_text("".join(f"{lines[it]}\n" for it in names), encoding="utf-8")
     shutil.copy(TOP / "HANDLES", room)
     for name in names:
-        shutil.copytree(TOP / "crates" / name, room / "crates" / name, ignore=shutil.ignore_patterns("out", "must-fail"))
+        shutil.copytree(TOP / "crates" / name, room / "crates" / name, ignore=APART)
 
 
-def main():
-    parser = argparse.ArgumentParser(description=__doc__, formatter_class=argparse.RawDescriptionHelpFormatter)
-    parser.add_argument("--jobs", type=int, metavar="N")
-    jobs = parser.parse_args().jobs
+def sources():
+    """The checksum of the toolchain and of all files that the program is made of."""
+    total = hashlib.sha256(subprocess.run(["rt", "version"], stdout=subprocess.PIPE, check=True).stdout)
+    with tempfile.TemporaryDirectory(prefix="omaha-sources-") as folder:
+        room = pathlib.Path(folder)
+        copy(room)
+        for path in sorted(it for it in room.rglob("*") if it.is_file()):
+            total.update(f"{path.relative_to(room)} {path.stat().st_size}\n".encode())
+            total.update(path.read_bytes())
+    return total.hexdigest()
+
+
+def noted(made_of):
+    """What is noted of a program that is built of these sources."""
+    return f"{made_of} {hashlib.sha256(BUILT.read_bytes()).hexdigest()}\n"
+
+
+def is_built(made_of):
+    """Whether the program was proved and built of these sources, and is as it was then."""
+    return BUILT.is_file() and NOTE.is_file() and NOTE.read_text(encoding="utf-8") == noted(made_of)
+
+
+def gate():
+    """Runs the gate, and notes what the program was made of unless that changed meanwhile."""
+    made_of = sources()
+    status = subprocess.run(["rt", "ci"], cwd=TOP, check=False).returncode
+    if status == 0 and sources() == made_of:
+        NOTE.write_text(noted(made_of), encoding="utf-8")
+    return status
+
+
+def build(jobs):
+    """Proves and builds the program in a folder of its own, unless that was done."""
+    made_of = sources()
+    if is_built(made_of):
+        print(f"{BUILT.relative_to(TOP)} is proved and built of just these files")
+        return 0
     environment = {**os.environ, "RT_JOBS": str(jobs)} if jobs else os.environ
     with tempfile.TemporaryDirectory(prefix="omaha-build-") as folder:
         room = pathlib.Path(folder)
         copy(room)
         status = subprocess.run(["rt", "ci"], cwd=room, env=environment, check=False).returncode
         if status == 0:
-            built = TOP / "crates" / PROGRAM / "out"
-            built.mkdir(exist_ok=True)
-            shutil.copy(room / "crates" / PROGRAM / "out" / PROGRAM, built)
+            BUILT.parent.mkdir(exist_ok=True)
+            shutil.copy(room / BUILT.relative_to(TOP), BUILT)
+            NOTE.write_text(noted(made_of), encoding="utf-8")
     return status
+
+
+def main():
+    parser = argparse.ArgumentParser(description=__doc__, formatter_class=argparse.RawDescriptionHelpFormatter)
+    which = parser.add_mutually_exclusive_group()
+    which.add_argument("--jobs", type=int, metavar="N")
+    which.add_argument("--gate", action="store_true")
+    asked = parser.parse_args()
+    return gate() if asked.gate else build(asked.jobs)
 
 
 if __name__ == "__main__":
