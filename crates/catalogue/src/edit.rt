@@ -94,9 +94,16 @@ impl Edit {
 }
 
 /// A list of edits that a catalogue applies whole or not at all.
-#[derive(Clone, Drop)]
+#[derive(Clone)]
 pub struct Batch {
     edits: Items<Edit>,
+}
+
+// Written out, so that no caller proves again how each part is dropped.
+impl Drop for Batch {
+    fn drop(self) {
+        let Batch { edits: _ } = self;
+    }
 }
 
 impl Model for Batch {

@@ -10,7 +10,7 @@ use std::marker::Model;
 /// Each is at most 4294967295. Versions compare number by number, so `1.9` is below `1.10`, and
 /// `1.0` equals `1.0.0.0`. One prints as its components joined by dots: at least two, and those up
 /// to the last that is not 0.
-#[derive(Clone, Copy, Debug, PartialEq, Eq, PartialOrd, Ord, Hash)]
+#[derive(Clone, Copy, PartialEq, Eq, PartialOrd, Ord, Hash)]
 pub struct Version {
     components: [u32; COMPONENTS],
 }

@@ -6,7 +6,7 @@ ghost use Rattle.cohorts.specs.Pins.{before, matches, pin_of};
 use catalogue::Version;
 
 /// Which versions a client's app may be brought to, by the prefix that its administrator set.
-#[derive(Clone, Copy, Debug, PartialEq, Eq, Hash)]
+#[derive(Clone, Copy, PartialEq, Eq, Hash)]
 pub enum Pin {
     /// Any version.
     Any,

@@ -15,7 +15,7 @@ use catalogue::{Catalogue, Cohort, Release, Version};
 use omaha_json::AppAsk;
 
 /// Which of a cohort's two targets a client is meant to have.
-#[derive(Clone, Copy, Debug, PartialEq, Eq, Hash)]
+#[derive(Clone, Copy, PartialEq, Eq, Hash)]
 pub enum Lane {
     /// The target, for the buckets below the cohort's share.
     Target,
@@ -24,7 +24,7 @@ pub enum Lane {
 }
 
 /// A client's cohort and bucket in an app, and what follows from them.
-#[derive(Clone, Copy, Debug, PartialEq, Eq)]
+#[derive(Clone, Copy, PartialEq, Eq)]
 pub struct Track {
     /// The index of the cohort that serves the client, in the app's cohorts.
     pub cohort: usize,

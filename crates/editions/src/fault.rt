@@ -10,7 +10,7 @@ use values::ReadError;
 /// Why an edition has no next one with a batch.
 ///
 /// The errors are in the order in which they are looked for; `Memory` may come before any of them.
-#[derive(Clone, Copy, Debug, PartialEq, Eq)]
+#[derive(Clone, Copy, Debug)]
 pub enum NextError {
     /// An edit of the batch was rejected.
     Refused(Refused),

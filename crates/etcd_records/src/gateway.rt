@@ -8,7 +8,6 @@ use std::alloc::Global;
 use values::Items;
 
 /// A server's response to a request.
-#[derive(Debug)]
 pub struct Response {
     /// The status of HTTP.
     pub status: u16,
@@ -24,7 +23,7 @@ impl Drop for Response {
 }
 
 /// Why there is no whole response to a request.
-#[derive(Clone, Copy, Debug, Drop, PartialEq, Eq)]
+#[derive(Clone, Copy, Drop)]
 pub enum GatewayFault {
     /// Nothing was sent: certainly no server carried the request out.
     Unsent,

@@ -13,7 +13,7 @@ use streams::Trace;
 use values::{Items, Text};
 
 /// What happens to a request in memory.
-#[derive(Debug, Drop)]
+#[derive(Drop)]
 pub enum EtcdTurn {
     /// It is carried out, and the reply comes.
     Replies,

@@ -14,7 +14,7 @@ use http_wire::{Allow, Failed, ReplyHead, Sink, Status, package_name, path_of, s
 use values::Declared;
 
 /// How a reply came out.
-#[derive(Clone, Copy, Debug, Drop, PartialEq, Eq)]
+#[derive(Clone, Copy, Drop)]
 pub enum Handled {
     /// It is whole, and the connection may go on.
     Answered,

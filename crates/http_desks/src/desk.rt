@@ -8,7 +8,7 @@ use http_wire::Status;
 use values::Declared;
 
 /// The status that a desk gives its reply.
-#[derive(Clone, Copy, Debug, Drop, PartialEq, Eq)]
+#[derive(Clone, Copy, Drop)]
 pub enum DeskStatus {
     /// 200: what was asked for.
     Success,
@@ -47,7 +47,7 @@ pub struct Answer {
 }
 
 /// Why a desk has no reply.
-#[derive(Clone, Copy, Debug, Drop, PartialEq, Eq)]
+#[derive(Clone, Copy, Drop)]
 pub enum Off {
     /// Out of memory.
     Memory,

@@ -2,7 +2,7 @@ ghost use Rattle.std.specs.Prelude.{◌≡◌};
 ghost use Rattle.http_desks.specs.Uses.{is_get, method_of};
 
 /// The method of a message, as far as it matters.
-#[derive(Clone, Copy, Debug, Drop, PartialEq, Eq)]
+#[derive(Clone, Copy, Drop)]
 pub enum Method {
     /// GET, for packages and pages.
     Get,

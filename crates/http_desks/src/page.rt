@@ -4,7 +4,7 @@ ghost use Rattle.http_desks.specs.Pages.{page_fields, page_status};
 use http_wire::Status;
 
 /// The type of a page's body, and the status of its reply.
-#[derive(Clone, Copy, Debug, Drop, PartialEq, Eq)]
+#[derive(Clone, Copy, Drop)]
 pub enum PageKind {
     /// Characters.
     Plain,

@@ -9,7 +9,7 @@ use std::io;
 use std::io::ErrorKind;
 
 /// What a folder has under the name of a package.
-#[derive(Clone, Copy, Debug, Drop, PartialEq, Eq)]
+#[derive(Clone, Copy, Drop)]
 pub enum Entry {
     /// A regular file of so many bytes.
     File(u64),

@@ -3,7 +3,7 @@ ghost use Rattle.std.specs.Prelude.{◌≡◌};
 use http_desks::Clock;
 
 /// A clock that always gives the same time.
-#[derive(Clone, Copy, Debug, Drop)]
+#[derive(Clone, Copy, Drop)]
 pub struct FixedClock {
     /// The time, in seconds since 1970.
     pub seconds: u64,

@@ -1,7 +1,7 @@
 use thiserror::Error;
 
 /// How a session ended.
-#[derive(Clone, Copy, Debug, Drop, PartialEq, Eq)]
+#[derive(Clone, Copy, Drop)]
 pub enum End {
     /// After a whole message, or before the first.
     Finished,
@@ -14,7 +14,7 @@ pub enum End {
 }
 
 /// What a session came to.
-#[derive(Clone, Copy, Debug, Drop, PartialEq, Eq)]
+#[derive(Clone, Copy, Drop)]
 pub struct Served {
     /// How many replies were begun, at most 1000.
     pub requests: u32,

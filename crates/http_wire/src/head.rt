@@ -12,7 +12,7 @@ use values::Failed;
 pub const MAX_FIELDS: usize = 5461;
 
 /// What a window begins with.
-#[derive(Clone, Copy, Debug, Drop, PartialEq, Eq)]
+#[derive(Clone, Copy, Drop)]
 pub enum Head {
     /// A whole head, whose parts are at these places.
     Whole(RequestSpans),

@@ -22,7 +22,7 @@ pub trait Watch {
 }
 
 /// The watch that looks at nothing.
-#[derive(Clone, Copy, Debug, Drop)]
+#[derive(Clone, Copy, Drop)]
 pub struct Unwatched;
 
 impl Watch for Unwatched {

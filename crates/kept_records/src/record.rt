@@ -7,7 +7,7 @@ use std::alloc::{AllocError, Global};
 use values::Items;
 
 /// What a record is.
-#[derive(Clone, Copy, Debug, Drop, PartialEq, Eq)]
+#[derive(Clone, Copy, Drop, PartialEq, Eq)]
 pub enum Kind {
     /// A profile, which begins a history.
     Profile,
@@ -18,7 +18,6 @@ pub enum Kind {
 }
 
 /// A record.
-#[derive(Debug)]
 pub struct Record {
     /// What it is.
     pub kind: Kind,

@@ -3,7 +3,7 @@
 use crate::record::Record;
 
 /// What happens at a call of `append` in memory, if the record fits.
-#[derive(Debug, Drop)]
+#[derive(Drop)]
 pub enum Turn {
     /// The record is stored.
     Stores,

@@ -97,14 +97,14 @@ impl<P: BudgetName> Model for Raiser<P> {
 }
 
 /// The budget has no room for the bytes.
-#[derive(Debug, Drop)]
+#[derive(Drop)]
 pub struct NoRoom {
     /// How many bytes may still be granted.
     pub left: u64,
 }
 
 /// The budget is above the one that was asked for.
-#[derive(Debug, Drop)]
+#[derive(Drop)]
 pub struct Lower {
     /// The budget in bytes.
     pub now: u64,

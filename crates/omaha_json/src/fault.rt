@@ -4,7 +4,7 @@ use std::fmt;
 /// Why bytes are no request of the Omaha protocol 3.1, JSON form.
 ///
 /// The faults are in the order in which they are looked for.
-#[derive(Clone, Copy, Debug, Drop, PartialEq, Eq)]
+#[derive(Clone, Copy, Debug, Drop)]
 pub enum RequestFault {
     /// The bytes are not JSON.
     NotJson,

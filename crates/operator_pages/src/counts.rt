@@ -4,7 +4,7 @@ ghost use Rattle.operator_pages.specs.Counts.{count_of, counted, heard, no_count
 /// What the operator's own calls came to, since the server started.
 ///
 /// A number stays at 2^64 - 1 once it is reached.
-#[derive(Clone, Copy, Debug, PartialEq, Eq)]
+#[derive(Clone, Copy)]
 pub struct Counts {
     /// When the server started, in seconds since 1970.
     pub started: u64,
@@ -27,7 +27,7 @@ pub struct Counts {
 }
 
 /// What an operator's call came to.
-#[derive(Clone, Copy, Debug, PartialEq, Eq)]
+#[derive(Clone, Copy)]
 pub enum Outcome {
     /// The script was published.
     Published,
@@ -46,7 +46,7 @@ pub enum Outcome {
 }
 
 /// What a call found of the history.
-#[derive(Clone, Copy, Debug, PartialEq, Eq)]
+#[derive(Clone, Copy)]
 pub enum Reach {
     /// It wasn't asked.
     Unasked,

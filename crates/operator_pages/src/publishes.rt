@@ -13,7 +13,7 @@ use std::marker::Model;
 const MAX_PUBLISHES: usize = 10;
 
 /// A publish: of an operator of this server, or of another server's.
-#[derive(Clone, Copy, Debug, PartialEq, Eq)]
+#[derive(Clone, Copy)]
 pub struct Publish {
     /// The number of the edition.
     pub edition: u64,

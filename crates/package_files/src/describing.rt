@@ -13,7 +13,7 @@ use std::error::Error;
 use std::fmt;
 
 /// Why a file is not described.
-#[derive(Clone, Copy, Debug, Drop, PartialEq, Eq)]
+#[derive(Clone, Copy, Debug, Drop)]
 pub enum DescribeError {
     /// The name is no package's name: no profile can have it.
     Name,

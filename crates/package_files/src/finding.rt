@@ -6,7 +6,7 @@ use std::fmt;
 use values::Text;
 
 /// How a file differs from what the catalogue declares of its package.
-#[derive(Clone, Copy, Debug, Drop, PartialEq, Eq)]
+#[derive(Clone, Copy, Drop)]
 pub enum Mismatch {
     /// There is no such file.
     Missing,
@@ -41,7 +41,7 @@ impl fmt::Display for Mismatch {
 }
 
 /// A declared package whose file differs.
-#[derive(Clone, Debug)]
+#[derive(Clone)]
 pub struct Finding {
     /// The package's name.
     pub name: Text,

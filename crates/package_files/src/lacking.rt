@@ -5,7 +5,7 @@ use percent_encoding::{CONTROLS, percent_encode};
 use std::fmt;
 
 /// What there is in place of the file of a package.
-#[derive(Clone, Copy, Debug, Drop, PartialEq, Eq)]
+#[derive(Clone, Copy, Debug, Drop)]
 pub enum Lack {
     /// There is no regular file of the name, or it can't be opened.
     Missing,

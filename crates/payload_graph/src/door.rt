@@ -11,7 +11,7 @@ use cohorts::{Pin, is_offered};
 use std::alloc::{AllocError, Global};
 
 /// A release as a destination of a track's clients.
-#[derive(Clone, Copy, Debug, PartialEq, Eq)]
+#[derive(Clone, Copy)]
 pub struct Door {
     /// The release's index, by ascending version.
     pub to: usize,

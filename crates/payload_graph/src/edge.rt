@@ -1,7 +1,7 @@
 //! Payloads between releases.
 
 /// Whether a payload is a full package or a differential.
-#[derive(Clone, Copy, Debug, PartialEq, Eq)]
+#[derive(Clone, Copy, PartialEq, Eq)]
 pub enum Kind {
     /// The full package of the destination.
     Full,
@@ -10,7 +10,7 @@ pub enum Kind {
 }
 
 /// A payload between two releases of an app, given by index.
-#[derive(Clone, Copy, Debug, PartialEq, Eq)]
+#[derive(Clone, Copy)]
 pub struct Edge {
     /// The release that it leaves.
     pub from: usize,

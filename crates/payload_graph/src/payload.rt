@@ -3,7 +3,7 @@
 use cohorts::{Lane, Pin};
 
 /// A package that leads a client from its place to a release.
-#[derive(Clone, Copy, Debug, PartialEq, Eq)]
+#[derive(Clone, Copy)]
 pub enum Payload {
     /// The full package of the release at an index, by ascending version.
     Full(usize),
@@ -12,7 +12,7 @@ pub enum Payload {
 }
 
 /// Names the clients of an app that are offered the same payloads.
-#[derive(Clone, Copy, Debug, PartialEq, Eq, Hash)]
+#[derive(Clone, Copy, PartialEq, Eq, Hash)]
 pub struct TrackKey {
     /// The index of the app, in the order of addition.
     pub app: usize,

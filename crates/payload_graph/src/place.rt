@@ -6,7 +6,7 @@ use crate::fingerprint::find_fingerprint;
 use catalogue::{Catalogue, Release, Version};
 
 /// Where a client is among the releases of an app.
-#[derive(Clone, Copy, Debug, PartialEq, Eq)]
+#[derive(Clone, Copy)]
 pub enum Place {
     /// At the release of an index, by ascending version.
     At(usize),

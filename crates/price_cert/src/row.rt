@@ -7,7 +7,7 @@ use payload_graph::{Kind, TrackKey};
 use values::SharedItems;
 
 /// What a table states of a release.
-#[derive(Clone, Copy, Debug, PartialEq, Eq)]
+#[derive(Clone, Copy, PartialEq, Eq)]
 pub enum Row {
     /// No chain leads from the release to the target.
     Nothing,

@@ -24,7 +24,7 @@ pub enum Rule {
 }
 
 /// A wrong row of a table.
-#[derive(Clone, Copy, Debug, PartialEq, Eq)]
+#[derive(Clone, Copy, PartialEq, Eq)]
 pub struct Wrong {
     /// The index of its release.
     pub row: usize,

@@ -6,7 +6,7 @@ use price_cert::Certified;
 use values::Items;
 
 /// A payload that was chosen for an app.
-#[derive(Clone, Copy, Debug, PartialEq, Eq)]
+#[derive(Clone, Copy)]
 pub struct Choice {
     /// The payload.
     pub payload: Payload,

@@ -11,7 +11,7 @@ use payload_graph::TrackKey;
 use std::alloc::{AllocError, Global};
 
 /// What a plan keeps of a client: the key of the track that it is assigned to, and its bucket.
-#[derive(Clone, Copy, Debug, PartialEq, Eq)]
+#[derive(Clone, Copy)]
 pub struct Assignment {
     /// The key of the client's track.
     pub key: TrackKey,

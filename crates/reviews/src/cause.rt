@@ -1,7 +1,7 @@
 //! Why a release is stuck.
 
 /// A rule that may leave clients stuck, in the order in which reasons are looked for.
-#[derive(Clone, Copy, Debug, PartialEq, Eq)]
+#[derive(Clone, Copy)]
 pub enum Cause {
     /// The target is withdrawn.
     Withdrawn,
@@ -16,7 +16,7 @@ pub enum Cause {
 }
 
 /// Why no chain leads from a release to the target.
-#[derive(Clone, Copy, Debug, PartialEq, Eq)]
+#[derive(Clone, Copy)]
 pub enum Reason {
     /// This rule: without it alone a chain would lead there. It is the first such rule.
     Alone(Cause),

@@ -18,7 +18,7 @@ use payload_graph::{Payload, TrackKey};
 use std::alloc::{AllocError, Global};
 
 /// The clients of a lane of a cohort that allow a downgrade, or those that don't.
-#[derive(Clone, Copy, Debug, PartialEq, Eq)]
+#[derive(Clone, Copy)]
 pub struct Clients {
     /// The index of the app, in the order of addition.
     pub app: usize,

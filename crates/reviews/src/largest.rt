@@ -7,7 +7,7 @@ use crate::outcome::Outcome;
 use std::alloc::{AllocError, Global};
 
 /// The largest one of some values of a track's releases.
-#[derive(Clone, Copy, Debug, PartialEq, Eq)]
+#[derive(Clone, Copy)]
 pub struct Largest {
     /// The index of the lowest release that has it.
     pub from: usize,

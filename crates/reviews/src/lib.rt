@@ -1,4 +1,5 @@
-//! Reviews: which clients of a catalogue are stuck and why, what a change makes of them, and pictures of its apps.
+//! Reviews: which clients of a catalogue are stuck and why, what a change makes of them, and pictures of an app's
+//! releases.
 //!
 //! A `TrackReview` says of a track with a target where the clients at each release are, its `Outcome`: at the target,
 //! before a chain of the least sum, or stuck for a `Reason`. `review_catalogue` makes one for each track. A reason is

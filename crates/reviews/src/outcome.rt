@@ -8,7 +8,7 @@ use payload_graph::Payload;
 use price_cert::Quote;
 
 /// Where the clients of a track at a release are.
-#[derive(Clone, Copy, Debug, PartialEq, Eq)]
+#[derive(Clone, Copy)]
 pub enum Outcome {
     /// At the target.
     Here,

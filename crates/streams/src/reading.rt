@@ -6,7 +6,7 @@ use std::alloc::Global;
 use std::io::{ErrorKind, Read};
 
 /// Why nothing was read whole.
-#[derive(Debug, Drop)]
+#[derive(Drop)]
 pub enum ReadFailure {
     /// The reader failed.
     Broken,

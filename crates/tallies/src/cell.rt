@@ -6,7 +6,7 @@ ghost use Rattle.tallies.specs.Cells.{cell_of, grant_cell};
 use crate::check::{Check, Grant, Kind, Outcome, Track};
 
 /// What a cell of a tally counts.
-#[derive(Clone, Copy, Debug, PartialEq, Eq)]
+#[derive(Clone, Copy)]
 pub enum Cell {
     /// The replies of a status, by its position in `CODES`.
     Replies(usize),

@@ -3,7 +3,7 @@
 /// The cohort that serves a client, by the positions in the catalogue's lists.
 ///
 /// No edit of a catalogue moves an app or a cohort.
-#[derive(Clone, Copy, Debug, PartialEq, Eq)]
+#[derive(Clone, Copy, PartialEq, Eq)]
 pub struct Track {
     /// The app's index.
     pub app: usize,
@@ -12,7 +12,7 @@ pub struct Track {
 }
 
 /// The kind of a payload.
-#[derive(Clone, Copy, Debug, PartialEq, Eq)]
+#[derive(Clone, Copy, PartialEq, Eq)]
 pub enum Kind {
     /// The full package of a release.
     Full,
@@ -21,7 +21,7 @@ pub enum Kind {
 }
 
 /// The bytes that a mirror granted for an update check.
-#[derive(Clone, Copy, Debug, PartialEq, Eq)]
+#[derive(Clone, Copy)]
 pub struct Grant {
     /// The mirror's index.
     pub mirror: usize,
@@ -32,7 +32,7 @@ pub struct Grant {
 }
 
 /// An update check that was replied to.
-#[derive(Clone, Copy, Debug, PartialEq, Eq)]
+#[derive(Clone, Copy)]
 pub enum Check {
     /// The catalogue doesn't have the app.
     Unknown,
@@ -45,7 +45,7 @@ pub enum Check {
 }
 
 /// What an update check of a known app came to.
-#[derive(Clone, Copy, Debug, PartialEq, Eq)]
+#[derive(Clone, Copy)]
 pub enum Outcome {
     /// The reply has an offer.
     Offered,
@@ -64,7 +64,7 @@ pub trait CountChecks: Copy {
 }
 
 /// Counts nothing.
-#[derive(Clone, Copy, Debug, Drop, PartialEq, Eq)]
+#[derive(Clone, Copy, Drop)]
 pub struct Uncounted;
 
 impl CountChecks for Uncounted {

@@ -10,7 +10,7 @@ const BEFORE: u8 = 9;
 const WHOLE: u8 = 12;
 
 /// What was seen of the first bytes of a reply, which may be written in parts.
-#[derive(Clone, Copy, Debug, PartialEq, Eq)]
+#[derive(Clone, Copy)]
 pub struct StatusSight {
     /// How many of them were written, 12 at most.
     pub count: u8,

@@ -11,7 +11,7 @@ use std::alloc::{AllocError, Global};
 use values::Items;
 
 /// The update checks of a cohort's clients, by their outcomes.
-#[derive(Clone, Copy, Debug, Drop, PartialEq, Eq)]
+#[derive(Clone, Copy, Drop)]
 pub struct CheckTotals {
     /// How many got an offer.
     pub offered: u64,
@@ -22,7 +22,7 @@ pub struct CheckTotals {
 }
 
 /// The bytes that were offered from a mirror.
-#[derive(Clone, Copy, Debug, Drop, PartialEq, Eq)]
+#[derive(Clone, Copy, Drop)]
 pub struct MirrorTotals {
     /// Those of full packages.
     pub full: u64,

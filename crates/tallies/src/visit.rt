@@ -9,7 +9,7 @@ use crate::sight::StatusSight;
 use crate::tally::Tally;
 
 /// What was seen of a connection that is open.
-#[derive(Clone, Copy, Debug, Drop, PartialEq, Eq)]
+#[derive(Clone, Copy, Drop)]
 pub struct Visit {
     is_active: bool,
     reply: StatusSight,

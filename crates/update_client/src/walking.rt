@@ -21,7 +21,7 @@ use values::{ReadError, Text};
 pub const MAX_STEPS: u64 = 1024;
 
 /// How far a walk went.
-#[derive(Clone, Copy, Debug, Drop, PartialEq, Eq)]
+#[derive(Clone, Copy, Drop, PartialEq, Eq)]
 pub struct Walk {
     /// How many offers were installed.
     pub steps: u64,

@@ -1,5 +1,5 @@
 /// What is declared of a package: its bytes and its SHA-256.
-#[derive(Clone, Copy, Debug, Drop, PartialEq, Eq)]
+#[derive(Clone, Copy, Drop)]
 pub struct Declared {
     /// How many bytes the package has.
     pub size: u64,

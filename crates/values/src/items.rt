@@ -6,7 +6,7 @@ use std::alloc::{AllocError, Global};
 use std::marker::Model;
 
 /// Items in order, which contracts see as their list.
-#[derive(Clone, Debug)]
+#[derive(Clone)]
 pub struct Items<T> {
     items: Vec<T>,
 }

@@ -2,7 +2,7 @@
 
 use std::sync::{Condvar, Mutex, Wait};
 
-#[derive(Clone, Copy, Drop, PartialEq, Eq)]
+#[derive(Clone, Copy, Drop)]
 enum State {
     Closed,
     Open,

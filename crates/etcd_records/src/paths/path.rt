@@ -10,7 +10,7 @@ use std::alloc::{AllocError, Global};
 use values::{Items, Text};
 
 /// The parts of a path of etcd, which are valid.
-#[derive(Clone, Copy, Debug, Drop)]
+#[derive(Clone, Copy, Drop)]
 pub struct EtcdPath<'a> {
     /// The addresses, from 1 to 16, with commas between them. Each is `HOST:PORT`.
     pub hosts: &'a str,

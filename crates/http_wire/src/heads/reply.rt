@@ -4,7 +4,7 @@ ghost use Rattle.http_wire.specs.Replies.{allow_line, last_lines};
 use crate::heads::status::Status;
 
 /// The only method that a path takes.
-#[derive(Clone, Copy, Debug, Drop, PartialEq, Eq)]
+#[derive(Clone, Copy, Drop)]
 pub enum Allow {
     /// POST, for requests.
     Post,
@@ -13,7 +13,7 @@ pub enum Allow {
 }
 
 /// What the head of a reply says.
-#[derive(Clone, Copy, Debug, Drop)]
+#[derive(Clone, Copy, Drop)]
 pub struct ReplyHead<'a> {
     /// The status, which the first line has.
     pub status: Status,

@@ -3,7 +3,7 @@
 use std::alloc::AllocError;
 
 /// Why there is no reply to an input.
-#[derive(Clone, Copy, Debug, Drop, PartialEq, Eq)]
+#[derive(Clone, Copy, Debug, Drop)]
 pub enum AnswerError {
     /// There is no place for a view of the edition.
     NoPlace,

@@ -17,7 +17,7 @@ const MAX_LINE: u64 = 65536;
 const MAX_RECORDS: u64 = 65536;
 
 /// What a look came to.
-#[derive(Clone, Copy, Debug, Drop, PartialEq, Eq)]
+#[derive(Clone, Copy, Drop)]
 pub enum Found {
     /// A record was adopted, and there may be another.
     Adopted,

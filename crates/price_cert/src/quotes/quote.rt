@@ -17,7 +17,7 @@ use cohorts::track_target;
 use payload_graph::{Kind, Payload, Place, TrackKey};
 
 /// What the clients of a track at a place are offered.
-#[derive(Clone, Copy, Debug, PartialEq, Eq)]
+#[derive(Clone, Copy)]
 pub enum Quote {
     /// Nothing: the place is the target.
     Here,

@@ -9,7 +9,7 @@ use streams::Shown;
 use values::Text;
 
 /// The entry of a document that is invalid.
-#[derive(Debug, Drop)]
+#[derive(Drop)]
 pub struct BadEntry {
     /// Its path, as `app[0].release[2].size`: one line.
     pub path: Text,

@@ -5,7 +5,7 @@ ghost use Rattle.update_client.specs.Addresses.{address_in, is_host_byte, is_lit
 use crate::heads::length::read_length;
 
 /// The address of a download.
-#[derive(Clone, Copy, Debug, Drop)]
+#[derive(Clone, Copy, Drop)]
 pub struct Address<'a> {
     /// The host, and the port if it is written; an IPv6 address is in brackets.
     pub authority: &'a str,

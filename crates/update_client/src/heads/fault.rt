@@ -4,7 +4,7 @@ use std::alloc::AllocError;
 ///
 /// A head that is rejected gives `NoHead` to `BadLength`, and a chunked body `BadChunk` to `LongTrailer`. Nothing else does,
 /// but that a download gives `TransferCoding` to a chunked body.
-#[derive(Clone, Copy, Debug, Drop, PartialEq, Eq)]
+#[derive(Clone, Copy, Drop, PartialEq, Eq)]
 pub enum LinkFault {
     /// The address of a download is invalid.
     Address,

@@ -1,4 +1,5 @@
-use Rattle.std.proofs.Common.{drop, inr, subst}
+use Rattle.std.proofs.Common.{arith, drop, inr, subst}
+use Rattle.std.proofs.lemmas.Grind.{common_steps}
 use Rattle.update_client.specs.declared.heads.length.BodyLength.{BodyLength}
 use Rattle.update_client.specs.Replies.{Announces}
 use Rattle.update_client.proofs.ReplyLemmas.{announced}
@@ -21,3 +22,6 @@ returns-then-start-ne200-clause-opened g c =
     let (consumed, found) = c.in_ok-start.ensures.read in
     let said = subst (λ (size : BodyLength). Announces held start.status size rest) c.in-Known.is (announced held start found) in
     (held, start.status, c.in-Known.left, rest, consumed, said, c.if-start-ne200.true)
+
+pub invariant_of-result : goal.invariant_of-result
+invariant_of-result g c = grind (arith, common_steps)
