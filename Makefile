@@ -1,8 +1,8 @@
 # make demo          prints requests of examples/ and their replies, serves, publishes and walks, by the
 #                    program built without a proof, or by the one of make install
 # make test          the gate: the rules' marks, the words to avoid, the functions and clauses that the claims name, the
-#                    lists of crates and of the corpus, the pictures, every proof from nothing, mutants, tests and the
-#                    program, and then the rows of tests/rows and a few idle connections with the built program
+#                    list of crates, the pictures, every proof from nothing, mutants, tests and the program, and then
+#                    the rows of tests/rows, the cases of tests/corpus and a few idle connections with the built program
 # make mutants CRATE..  tries the mutants that the gate doesn't, of these crates or of all; the prover
 #                    must reject each
 # make commands      runs the commands on the profiles of examples/, and verifies each track's
@@ -44,11 +44,11 @@ test:
 	tests/words.py
 	tests/claims.py
 	tests/crates.py
-	tests/corpus.py
 	tests/edits.py
 	docs/pictures/draw.py --check
 	packaging/build.py --gate
 	tests/rows.py
+	tests/corpus.py
 	tests/idle.py --only few --size 8
 
 mutants:

@@ -23,12 +23,10 @@ import sys
 import tempfile
 import time
 
-from fuzzing import corpus, kinds, replies
+from fuzzing import corpus, kinds
+from fuzzing.outcomes import KINDS, MEMORY, check_outcomes
 
 TOP = pathlib.Path(__file__).resolve().parent.parent
-# files of a case are written and read once, so they are better in memory
-MEMORY = "/dev/shm" if os.access("/dev/shm", os.W_OK) else None
-KINDS = [kinds.Requests, kinds.Heads, kinds.Scripts, kinds.Profiles, kinds.Certificates, kinds.Once, replies.Replies]
 MOST_SAVED = 20
 
 
@@ -69,24 +67,6 @@ def run_batch(batch):
             made = kind(program, folder)
             made.run(made.make(random.Random(f"{seed}/{kind.name}/{index}"), count), outcome.record)
     return outcome
-
-
-def check_corpus(arguments):
-    """Gives the program each case of the corpus as it is: how many have another outcome than theirs."""
-    wrong, count = 0, 0
-    for kind in KINDS:
-        if kind is kinds.Requests or kind.name not in arguments.kinds.split(","):
-            continue
-        with tempfile.TemporaryDirectory(prefix="omaha-fuzz-", dir=MEMORY) as folder:
-            made = kind(arguments.program, folder)
-            for case in corpus.read_cases(made.folder_name()):
-                count += 1
-                found = made.outcome(case.data)
-                if found != case.outcome:
-                    wrong += 1
-                    print(f"{made.folder_name()}/{case.name}: {found[:300]!r} and not {case.outcome[:300]!r}")
-    print(f"corpus: {count} cases, {wrong} wrong", flush=True)
-    return wrong
 
 
 def batches_of(arguments, until):
@@ -157,7 +137,7 @@ def main():
     if corpus.strays():
         sys.exit(f"tests/corpus/outcomes and the files differ: {', '.join(corpus.strays())}")
     arguments.program = os.path.abspath(arguments.program)
-    if replay(arguments) if arguments.replay else check_corpus(arguments) + fuzz(arguments):
+    if replay(arguments) if arguments.replay else check_outcomes(arguments.program, arguments.kinds.split(",")) + fuzz(arguments):
         sys.exit(1)
 
 

@@ -298,14 +298,21 @@ class Heads(Kind):
         return []
 
     def outcome(self, data):
-        served, statuses = server.Served(self.program, self.folder, 1, 0), []
+        """What the bytes get at once, and in pieces of 100 bytes if that is something else."""
+        served = server.Served(self.program, self.folder, 2, 0)
+        whole, cut = self.statuses(served, data, []), self.statuses(served, data, range(100, len(data), 100))
+        served.end()
+        return whole if whole == cut else f"{whole}, and in pieces {cut}"
+
+    def statuses(self, served, data, cuts):
+        """The statuses of the replies to what a connection sends."""
+        statuses = []
         with served.connect() as connection:
-            connection.send(data)
+            connection.send(data, cuts)
             connection.finish()
             while reply := connection.read():
                 is_cut = len(reply.body) < reply.length
                 statuses.append(f"{reply.status}{'.' * reply.is_last}{'!' * is_cut}")
-        served.end()
         return " ".join(statuses) or "none"
 
     def check_end(self, served):
@@ -452,6 +459,8 @@ class Scripts(Kind):
             connection.send(post(OPERATE, data))
             reply = connection.read()
         served.end()
+        self.budgets = {name: budget for name, _, budget in self.catalogue.mirrors}
+        self.judge_script(data, reply, [])
         return "dump" if b"codebase" in reply.body else reply.body.decode().rstrip("\n")
 
     def greet(self, served):

@@ -120,7 +120,8 @@ class Replies(kinds.Kind):
         return kinds.Case(data, how)
 
     def outcome(self, data):
-        """The model's, since a walk prints no fault of a reply."""
+        """The model's, since a walk prints no fault of a reply; `Wrong` if the walk doesn't go by it."""
+        self.judge(kinds.Case(data, {"posts": [whole(data).decode("latin-1")], "gets": [], "client": 0}))
         return walk_model.reply_fault(data) or "read"
 
     def judge(self, case):
@@ -133,7 +134,8 @@ class Replies(kinds.Kind):
         fault = walk_model.walk_fault(status, output, errors, self.host.sent, self.host.bodies)
         if fault:
             raise Wrong(fault)
-        reply = walk_model.reply_fault(case.data)
-        if reply and posts[0] == whole(case.data.replace(PLACE, place)) and (output, errors) != (b"", b"omaha: U2 Reply\n"):
-            raise Wrong(f"{reply}: {status}, {output[:200]!r}, {errors[:200]!r}")
+        if posts[0] == whole(case.data.replace(PLACE, place)):
+            fault = walk_model.first_fault(status, output, errors, walk_model.heard(case.data, "mini"))
+            if fault:
+                raise Wrong(fault)
         return errors[7:9].decode() if status else f"{output.count(b'step ')} steps"

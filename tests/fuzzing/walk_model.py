@@ -68,6 +68,27 @@ def reply_fault(data):
     return next((f"K5 BadOffer {index}" for index, app in enumerate(apps) if not is_app(app)), None)
 
 
+def heard(data, app):
+    """What the status of an update check says to a client of the app: `ok`, `noupdate` or `error-internal`, else `None`."""
+    apps = [] if reply_fault(data) else json_model.value_of(data[4:])["response"].get("app", [])
+    if len(apps) != 1 or apps[0]["appid"].lower() != app or apps[0]["status"] != "ok":
+        return None
+    status = at(apps[0], "updatecheck", "status")
+    return status if status in ("ok", "noupdate", "error-internal") else None
+
+
+def first_fault(status, output, errors, said):
+    """What is wrong with what a walk printed, by what its first reply said; or `None`."""
+    if said == "ok":
+        is_right = output != b"" or errors != b"omaha: U2 Reply\n"
+    elif said == "noupdate":
+        is_right = status == 0
+    else:
+        wanted = b"omaha: U8 Busy\n" if said else b"omaha: U2 Reply\n"
+        is_right = (output, errors) == (b"", wanted)
+    return None if is_right else f"after {said}: {status}, {output[:200]!r}, {errors[:200]!r}"
+
+
 def hosts(value):
     """The strings of a value that hold an address."""
     if isinstance(value, str):

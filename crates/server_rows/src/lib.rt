@@ -1,5 +1,4 @@
-//! Worked rows of what a server decides: plans with their tables, and what is published to views and rejected; and what
-//! the hostile bodies of `tests/corpus/` are read as, and its connections get.
+//! Worked rows of what a server decides: plans with their tables, and what is published to views and rejected.
 //!
 //! It has tests alone, so that `cohorts`, `editions`, `publisher` and `replies` are proved once. What a server replies is
 //! in rows of the program.
@@ -10,10 +9,6 @@
 mod asking;
 #[cfg(test)]
 mod batches;
-#[cfg(test)]
-mod connection_tests;
-#[cfg(test)]
-mod corpus_tests;
 #[cfg(test)]
 mod crossing;
 #[cfg(test)]

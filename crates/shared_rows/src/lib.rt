@@ -8,8 +8,6 @@
 #[cfg(test)]
 mod answers;
 #[cfg(test)]
-mod corpus_tests;
-#[cfg(test)]
 mod desk;
 #[cfg(test)]
 mod full_tests;
