@@ -30,7 +30,7 @@ TOP = pathlib.Path(__file__).resolve().parent.parent
 EXAMPLES = TOP / "examples"
 # the crates that have tests without memory
 CRATES = [
-    "catalogue_rows", "tables_rows", "protocol_rows", "server_rows", "shared_rows", "desk_rows"
+    "catalogue_rows", "tables_rows", "protocol_rows", "server_rows", "desk_rows"
 ]
 LIMIT = 20
 SHOWN = 5

@@ -4,11 +4,13 @@
 
 use crate::asking::reply_to;
 use crate::batches::small;
+use crate::desk::{bodies_of, first_wrong, replies_to};
 use crate::plans::print_plan;
 use crate::press_tests::open_one;
 use cohorts::CohortText;
 use editions::{Edition, NextError};
 use fixtures::{CHAINED, edition_of, next_of, open_batches, open_profile, publish_edits};
+use kept_records::Unkept;
 use publisher::{Press, PublishError, View};
 use std::alloc::Global;
 use std::sync::Wait;
@@ -45,14 +47,14 @@ fn next_without_memory(rt: HostRuntime) {
     assert!(rt; are_right(makes_next(rt.alloc()), makes_next(rt.alloc())));
 }
 
-// Whether a press and two views are opened that have edition 1; `None` if memory ran out.
+// Whether a press and eight views are opened that have edition 1; `None` if memory ran out.
 fn are_opened<R: Wait>(rt: &R, opened: Result<(Press, Vec<View>), PublishError>) -> Option<bool> {
     match opened {
         Ok((press, views)) => {
-            let is_seen = views.len() == 2 && views[0].seen() == 1 && views[1].seen() == 1;
+            let are_seen = views.len() == 8 && views.iter().all(|view| view.seen() == 1);
             let number = press.edition().number();
             press.end(rt);
-            Some(is_seen && number == 1)
+            Some(are_seen && number == 1)
         }
         Err(PublishError::Memory) => None,
         Err(_) => Some(false),
@@ -60,7 +62,7 @@ fn are_opened<R: Wait>(rt: &R, opened: Result<(Press, Vec<View>), PublishError>)
 }
 
 fn opens<R: Threads + Wait>(rt: &R, alloc: Global) -> Option<bool> {
-    are_opened(rt, open_profile(rt, alloc, CHAINED, 2))
+    are_opened(rt, open_profile(rt, alloc, CHAINED, 8))
 }
 
 // rule: Opening
@@ -71,7 +73,7 @@ fn open_without_memory(rt: HostRuntime) {
 }
 
 fn opens_edition<R: Wait>(rt: &R, alloc: Global) -> Option<bool> {
-    are_opened(rt, open_batches(rt, alloc, 1, 2))
+    are_opened(rt, open_batches(rt, alloc, 1, 8))
 }
 
 // rule: Opening
@@ -162,4 +164,37 @@ fn renders(alloc: Global) -> Option<bool> {
 #[test]
 fn render_without_memory(rt: HostRuntime) {
     assert!(rt; are_right(renders(rt.alloc()), renders(rt.alloc())));
+}
+
+// A script and a raise, each with what it gets.
+const OPERATED: &str =
+    r#"schema = 1~base = 1~edit = [{ do = "set_withdrawn", app = "demo", version = "3.0", on = true }] = 200 edition 2
+raise m0 1000001 = 200 raised m0 1000001
+dump = profile"#;
+
+// Whether the replies are those, and then a dump with the raised budget.
+fn are_done(replies: &[String]) -> bool {
+    let dump = match replies.get(2) {
+        Some(dump) => dump.as_str(),
+        None => "",
+    };
+    first_wrong(replies, OPERATED) == "dump = profile" && dump.contains("budget = 1000001\n")
+}
+
+// Whether an operator publishes a script, raises a budget, and dumps the profile, each at once or again.
+fn operates<R: Threads + Wait + Sync + AllocGlobal>(rt: &R) -> Option<bool> {
+    let bodies = bodies_of(rt.alloc(), OPERATED)?;
+    let (_unkept, replies) = replies_to(rt, Unkept::new(), &bodies);
+    match replies {
+        Some(replies) => Some(are_done(&replies)),
+        None => None,
+    }
+}
+
+// rule: Operator's desk
+// rule: Performed script
+// rule: Due edition
+#[test]
+fn operator_answer_without_memory(rt: HostRuntime) {
+    assert!(rt; are_right(operates(&rt), operates(&rt)));
 }

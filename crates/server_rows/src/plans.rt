@@ -51,16 +51,6 @@ pub(crate) fn chooses_before_withdrawal(alloc: Global, edition: &Edition) -> boo
     )
 }
 
-/// Whether an edition of `CHAINED` without 3.0 offers a client at 2.0 the differential to 4.0.
-pub(crate) fn chooses_after_withdrawal(alloc: Global, edition: &Edition) -> bool {
-    let client =
-        r#"{"request":{"app":[{"appid":"demo","cohort":"stable:0","packages":{"package":[{"fp":"1.2222222222222222222222222222222222222222222222222222222222222222"}]},"updatecheck":{}}],"protocol":"3.1"}}"#;
-    is_line(
-        print_plan(alloc, edition, client),
-        "differential 3 for 500;",
-    )
-}
-
 // Whether the plan of a row's request has as many tables of its own as the row says.
 fn has_tables(alloc: Global, edition: &Edition, row: &str) -> Option<bool> {
     let (count, asked) = row.split_once(" | ")?;

@@ -127,6 +127,7 @@ fn rises<R: Threads + Wait + Sync>(rt: &R, alloc: Global) -> bool {
 
 // rule: History of the published edition
 // rule: Entry of a view
+// rule: Learnt history
 // rule: Meeting of a press and a view
 #[test]
 fn numbers_never_fall_while_another_thread_publishes(rt: HostRuntime) {

@@ -1,7 +1,7 @@
 -- The mirrors are still those of a profile, and budgets may still be raised.
 use Rattle.std.proofs.Common.{◌≡◌, true}
 use Rattle.profile_toml.specs.Laws.{AreMirrors}
-use Rattle.shared_rows.proofs.desk.SendingBudgetJob.work.Given as goal
+use Rattle.server_rows.proofs.desk.SendingBudgetJob.work.Given as goal
 
 abbrev pub invariant-loop-body : goal.invariant-loop-body
 invariant-loop-body g l = AreMirrors (g.B.Budgets.present l.budgets) × (g.B.Budgets.rises l.budgets ≡ true)

@@ -4,10 +4,9 @@ ghost use Rattle.std.specs.Prelude.{◌≡◌, ⊤, IfOk, true, vec_len};
 ghost use Rattle.profile_toml.specs.Laws.{AreMirrors};
 
 use crate::answers::print_answer;
-use catalogue::Mirror;
-use fixtures::{has_bounds, mirrors_of_profile, open_document};
+use fixtures::{CHAINED, has_bounds, mirrors_of_profile, open_profile};
 use http_desks::{Desk, Off};
-use kept_records::{Records, Unkept};
+use kept_records::Records;
 use mirror_ledger::{BudgetJob, Budgets, Till, TillJob, run_with_tills};
 use par_tables::Free;
 use publisher::Press;
@@ -119,11 +118,9 @@ fn one_idle(alloc: Global) -> Result<Vec<Idle>, AllocError>
 // Sends the bodies, beside a worker that asks for nothing.
 fn send_bodies<R: Threads + Wait + Sync + AllocGlobal, K: Records>(
     rt: &R,
-    mirrors: Vec<Mirror>,
     sending: &mut Sending<'_, R, K>,
-) -> Option<Vec<String>>
-    requires { AreMirrors mirrors.items }
-{
+) -> Option<Vec<String>> {
+    let mirrors = mirrors_of_profile(rt.alloc(), CHAINED.as_bytes())?;
     if !has_bounds(&mirrors) {
         return None;
     }
@@ -134,23 +131,20 @@ fn send_bodies<R: Threads + Wait + Sync + AllocGlobal, K: Records>(
     }
 }
 
-/// What bodies get that are sent to the desk of a press one after the other, with the press and the records.
-pub(crate) fn replies_kept<R: Threads + Wait + Sync + AllocGlobal, K: Records>(
+// What bodies get that are sent to the desk of a press one after the other, with the press and the records.
+fn replies_of<R: Threads + Wait + Sync + AllocGlobal, K: Records>(
     rt: &R,
     press: Press,
     records: K,
-    mirrors: Vec<Mirror>,
     bodies: &[Vec<u8>],
-) -> (Press, K, Option<Vec<String>>)
-    requires { AreMirrors mirrors.items }
-{
+) -> (Press, K, Option<Vec<String>>) {
     let mut sending = Sending {
         rt,
         press,
         records,
         bodies,
     };
-    let replies = send_bodies(rt, mirrors, &mut sending);
+    let replies = send_bodies(rt, &mut sending);
     let Sending {
         rt: _,
         press,
@@ -160,70 +154,31 @@ pub(crate) fn replies_kept<R: Threads + Wait + Sync + AllocGlobal, K: Records>(
     (press, records, replies)
 }
 
-/// What bodies get that are sent to the desk of a press one after the other, and the press. Nothing is kept.
-pub(crate) fn replies_of<R: Threads + Wait + Sync + AllocGlobal>(
+/// What bodies get that are sent to the desk of `CHAINED` one after the other, and the records.
+pub(crate) fn replies_to<R: Threads + Wait + Sync + AllocGlobal, K: Records>(
     rt: &R,
-    press: Press,
-    mirrors: Vec<Mirror>,
+    records: K,
     bodies: &[Vec<u8>],
-) -> (Press, Option<Vec<String>>)
-    requires { AreMirrors mirrors.items }
-{
-    let (press, _unkept, replies) = replies_kept(rt, press, Unkept::new(), mirrors, bodies);
-    (press, replies)
-}
-
-// The press of a profile.
-fn open_one<R: Threads + Wait>(rt: &R, alloc: Global, profile: &[u8]) -> Option<Press> {
-    match open_document(rt, alloc, profile, 1) {
-        Ok((press, _views)) => Some(press),
-        Err(_) => None,
+) -> (K, Option<Vec<String>>) {
+    match open_profile(rt, rt.alloc(), CHAINED, 1) {
+        Ok((press, _views)) => {
+            let (press, records, replies) = replies_of(rt, press, records, bodies);
+            press.end(rt);
+            (records, replies)
+        }
+        Err(_) => (records, None),
     }
 }
 
-/// What bodies get that are sent to the desk of a profile one after the other.
-pub(crate) fn replies_to<R: Threads + Wait + Sync + AllocGlobal>(
-    rt: &R,
-    profile: &[u8],
-    bodies: &[Vec<u8>],
-) -> Option<Vec<String>> {
-    let mirrors = mirrors_of_profile(rt.alloc(), profile)?;
-    let press = open_one(rt, rt.alloc(), profile)?;
-    let (press, replies) = replies_of(rt, press, mirrors, bodies);
-    press.end(rt);
-    replies
-}
-
-/// The bodies of rows, each of a body and what it gets, with ` = ` between; `~` is a line feed and `^` a carriage return.
+/// The bodies of rows, each of a body and what it gets, with ` = ` between; `~` is a line feed.
 pub(crate) fn bodies_of(alloc: Global, rows: &str) -> Option<Vec<Vec<u8>>> {
     let mut bodies = Vec::new(alloc);
     for row in rows.lines() {
         let (text, _wanted) = row.rsplit_once(" = ")?;
-        let body = body_of(alloc, text)?;
-        bodies.push(body).ok()?;
+        let body = text.replace(alloc, "~", "\n").ok()?;
+        bodies.push(body.into_bytes()).ok()?;
     }
     Some(bodies)
-}
-
-/// Puts a body at the end.
-pub(crate) fn push_body(alloc: Global, bodies: &mut Vec<Vec<u8>>, body: &[u8]) -> Option<()> {
-    let body = Vec::from_slice(alloc, body).ok()?;
-    bodies.push(body).ok()
-}
-
-// The bytes of a body, with `~` for a line feed and `^` for a carriage return.
-fn body_of(alloc: Global, text: &str) -> Option<Vec<u8>> {
-    let lines = text.replace(alloc, "~", "\n").ok()?;
-    let body = lines.as_str().replace(alloc, "^", "\r").ok()?;
-    Some(body.into_bytes())
-}
-
-/// Whether each of the replies is what its row says.
-pub(crate) fn are_as_said(replies: Option<Vec<String>>, rows: &'static str) -> bool {
-    match replies {
-        Some(replies) => first_wrong(&replies, rows) == "none",
-        None => false,
-    }
 }
 
 /// The first row that doesn't get what it says, `none` if each does.

@@ -1,10 +1,8 @@
-// What the operator's desk keeps, and what a restart finds of it.
+// What the operator's desk keeps.
 
-use crate::desk::{bodies_of, first_wrong, push_body, replies_kept};
-use catalogue::Mirror;
-use fixtures::{CHAINED, mirrors_of_profile, open_document};
+use crate::desk::{bodies_of, first_wrong, replies_to};
+use fixtures::CHAINED;
 use kept_records::{Kind, MemoryRecords, Record, Records, Turn};
-use omaha_histories::{export, list};
 use std::alloc::Global;
 use std::str;
 use std::sync::Wait;
@@ -24,9 +22,9 @@ schema = 1~base = 2~edit = [{ do = "set_stone", app = "demo", version = "9.0", o
 schema = 2~base = 2 = 200 edition 3"#;
 
 // The records that are known then.
-const LISTED: &str = "2 script 95 2 schema = 1
-3 raise 16 2 raise m0 1000000
-4 script 19 3 schema = 2
+const LISTED: &str = "2 95 schema = 1
+3 16 raise m0 1000000
+2 19 schema = 2
 ";
 
 // Records that begin with a profile.
@@ -46,62 +44,49 @@ fn push_turns(records: &mut MemoryRecords) -> Option<()> {
     push_turn(records, Turn::Stores)
 }
 
-// The last reply, without its status.
-fn dump_in(replies: &[String]) -> Option<&str> {
-    replies.last()?.as_str().strip_prefix("200 ")
-}
-
-// Whether a restart from records makes what was dumped, and they are listed as they should be.
-fn finds<R: Threads + AllocGlobal>(
-    rt: &R,
-    records: &[Record],
-    replies: &[String],
-    wanted: &str,
-) -> Option<bool> {
-    if records.len() > 65536 {
-        return None;
+// Puts a line for each record at the end: its kind, how many bytes it has, and its first line.
+fn push_list(list: &mut String, records: &[Record]) -> Option<()> {
+    for record in records {
+        let text = str::from_utf8(record.bytes.as_slice()).ok()?;
+        let first = text.lines().next().unwrap_or("");
+        writeln!(list, "{} {} {first}", record.kind.number(), text.len()).ok()?;
     }
-    let listed = list(rt.alloc(), 1, records).ok()?;
-    let found = export(rt, rt.alloc(), records).ok()?;
-    let dumped = dump_in(replies)?;
-    Some(listed.as_str().ends_with(wanted) && str::from_utf8(&found).ok()? == dumped)
+    Some(())
 }
 
-// Sends the bodies of rows to the desk of records, and then asks for a dump: the known records, and the replies.
-fn send_all<R: Threads + Wait + Sync + AllocGlobal>(
+// Whether these are the records that are known after the first one.
+fn are_known(alloc: Global, records: &MemoryRecords, wanted: &str) -> Option<bool> {
+    let known = records.stored.as_slice().get(1..records.known)?;
+    let mut list = String::new(alloc);
+    push_list(&mut list, known)?;
+    Some(list.as_str() == wanted)
+}
+
+// The first row that doesn't get what it says, `records` if others than these are known then, else `none`.
+fn first_wrong_of<R: Threads + Wait + Sync + AllocGlobal>(
     rt: &R,
     records: MemoryRecords,
-    rows: &str,
-) -> Option<(MemoryRecords, Vec<String>)> {
-    let bodies = bodies_with_dump(rt.alloc(), rows)?;
-    let mirrors = mirrors_of_profile(rt.alloc(), CHAINED.as_bytes())?;
-    let (press, _views) = open_document(rt, rt.alloc(), CHAINED.as_bytes(), 1).ok()?;
-    let (press, records, replies) = replies_kept(rt, press, records, mirrors, &bodies);
-    press.end(rt);
-    Some((records, replies?))
-}
-
-fn bodies_with_dump(alloc: Global, rows: &str) -> Option<Vec<Vec<u8>>> {
-    let mut bodies = bodies_of(alloc, rows)?;
-    match push_body(alloc, &mut bodies, b"dump") {
-        Some(()) => Some(bodies),
-        None => None,
+    bodies: &[Vec<u8>],
+    rows: &'static str,
+    listed: &str,
+) -> &'static str {
+    let (records, replies) = replies_to(rt, records, bodies);
+    match replies {
+        Some(replies) if are_known(rt.alloc(), &records, listed) == Some(true) => {
+            first_wrong(&replies, rows)
+        }
+        _ => "records",
     }
 }
 
-// The first row that doesn't get what it says, `records` if a restart finds something else than these, else `none`.
-fn first_wrong_of<R: Threads + Wait + Sync + AllocGlobal>(
+fn first_wrong_row<R: Threads + Wait + Sync + AllocGlobal>(
     rt: &R,
     records: Option<MemoryRecords>,
     rows: &'static str,
     listed: &str,
 ) -> Option<&'static str> {
-    let (records, replies) = send_all(rt, records?, rows)?;
-    let known = records.stored.as_slice().get(..records.known)?;
-    match finds(rt, known, &replies, listed) {
-        Some(true) => Some(first_wrong(&replies, rows)),
-        _ => Some("records"),
-    }
+    let bodies = bodies_of(rt.alloc(), rows)?;
+    Some(first_wrong_of(rt, records?, &bodies, rows, listed))
 }
 
 fn records_of(alloc: Global) -> Option<MemoryRecords> {
@@ -114,12 +99,10 @@ fn records_of(alloc: Global) -> Option<MemoryRecords> {
 
 // rule: Kept script
 // rule: Kept raise
-// rule: Restart from records
-// rule: Edition of a whole history
 #[test]
-fn keeps_what_it_publishes_and_a_restart_finds_it(rt: HostRuntime) {
+fn keeps_what_it_publishes_and_raises(rt: HostRuntime) {
     let records = records_of(rt.alloc());
-    assert!(rt; first_wrong_of(&rt, records, SENT, LISTED) == Some("none"));
+    assert!(rt; first_wrong_row(&rt, records, SENT, LISTED) == Some("none"));
 }
 
 // What is sent to a server whose history others append to. Two records of theirs are there before it begins; then one comes
@@ -139,12 +122,12 @@ follow = closed
 schema = 1~base = 3 = 409 stale 4"#;
 
 // The records that are known then.
-const SHARED_LIST: &str = "2 script 95 2 schema = 1
-3 raise 16 2 raise m0 1000000
-4 script 19 3 schema = 1
-5 script 19 4 schema = 1
-6 raise 16 4 raise m0 1500000
-7 raise 16 4 raise m0 2000000
+const SHARED_LIST: &str = "2 95 schema = 1
+3 16 raise m0 1000000
+2 19 schema = 1
+2 19 schema = 1
+3 16 raise m0 1500000
+3 16 raise m0 2000000
 ";
 
 fn other(alloc: Global, kind: Kind, bytes: &str) -> Option<Record> {
@@ -198,5 +181,5 @@ fn shared_of(alloc: Global) -> Option<MemoryRecords> {
 #[test]
 fn takes_over_what_other_servers_keep(rt: HostRuntime) {
     let records = shared_of(rt.alloc());
-    assert!(rt; first_wrong_of(&rt, records, SHARED, SHARED_LIST) == Some("none"));
+    assert!(rt; first_wrong_row(&rt, records, SHARED, SHARED_LIST) == Some("none"));
 }
