@@ -63,7 +63,7 @@ pub struct MioPort<'a, R: Wait> {
     // what it serves by, and how many connections were accepted
     pub(crate) terms: Terms,
     pub(crate) accepted: u64,
-    // the moment that the waits of connections are counted from
+    // the time that the waits of connections are counted from
     pub(crate) start: Instant,
     // whether the slots are to be looked at for late connections, and the first one that isn't yet
     pub(crate) is_due: bool,
