@@ -1,7 +1,7 @@
 // Sessions whose source, sink or packages fail at one call, whichever it is.
 
 use crate::desks::{FILES, letters};
-use crate::session_tests::serve_over;
+use crate::session_tests::{serve_over, serve_sent};
 use http_memory::{Connection, Input, Output, Shelf};
 
 // A post that is echoed, whose body looks like a head, a download, and a message to no path.
@@ -35,9 +35,7 @@ fn replies_to(read: usize) -> (&'static [u8], u32, &'static str) {
 // Whether a connection that sends these bytes gets the replies to the messages that are whole in them.
 fn is_served_before(rt: &HostRuntime, sent: &[u8], piece: usize) -> bool {
     let (replies, count, how) = replies_to(sent.len());
-    let mut connection = Connection::new(rt.alloc(), sent, piece);
-    let ended = serve_over(rt, &FILES, &mut connection);
-    ended == (count, how) && connection.output.bytes.as_slice() == replies
+    serve_sent(rt, sent, piece, replies) == ((count, how), true)
 }
 
 // rule: End of a session
@@ -51,24 +49,27 @@ fn replies_to_whole_messages_before_each_cut(rt: HostRuntime) {
     }
 }
 
+// How a session ends one of whose reads fails after so many; whether the connection gets the replies to what was read
+// before. A read gives so many bytes.
+fn fail_read(rt: &HostRuntime, piece: usize, good: usize) -> ((u32, &'static str), bool) {
+    let mut input = Input::new(SENT, piece);
+    input.fails_after = Some(good);
+    let output = Output::new(rt.alloc(), 1000);
+    let mut connection = Connection { input, output };
+    let ended = serve_over(rt, &FILES, &mut connection);
+    let read = SENT.len().saturating_sub(connection.input.left.len());
+    let (replies, _, _) = replies_to(read);
+    (ended, connection.output.bytes.as_slice() == replies)
+}
+
 // Lets each read of a session fail until none does, and returns how many there are; `None` if a connection gets anything
-// but the replies to what was read before. A read gives so many bytes.
+// but the replies to what was read before.
 fn count_reads(rt: &HostRuntime, piece: usize) -> Option<usize> {
     for good in 0..1000 {
-        let mut input = Input::new(SENT, piece);
-        input.fails_after = Some(good);
-        let output = Output::new(rt.alloc(), 1000);
-        let mut connection = Connection { input, output };
-        let ended = serve_over(rt, &FILES, &mut connection);
-        let read = SENT.len().saturating_sub(connection.input.left.len());
-        if connection.output.bytes.as_slice() != replies_to(read).0 {
-            return None;
-        }
-        if ended == (3, "finished") {
-            return Some(good);
-        }
-        if ended != (0, "read failed") {
-            return None;
+        match fail_read(rt, piece, good) {
+            ((3, "finished"), true) => return Some(good),
+            ((0, "read failed"), true) => {}
+            _ => return None,
         }
     }
     None
@@ -86,24 +87,27 @@ fn replies_to_whole_messages_before_each_failed_read(rt: HostRuntime) {
     }
 }
 
+// How a session ends one of whose writes fails after so many; how many bytes the connection gets, if they are a first part
+// of the replies. A write takes so many bytes.
+fn fail_write(rt: &HostRuntime, piece: usize, good: usize) -> ((u32, &'static str), Option<usize>) {
+    let mut output = Output::new(rt.alloc(), piece);
+    output.fails_after = Some(good);
+    let input = Input::new(SENT, 1000);
+    let mut connection = Connection { input, output };
+    let ended = serve_over(rt, &FILES, &mut connection);
+    let written = &connection.output.bytes;
+    let is_first = WRITTEN.starts_with(written) && connection.output.calls == good;
+    (ended, is_first.then_some(written.len()))
+}
+
 // Lets each write of a session fail until none does, and returns how many there are; `None` if a connection gets anything
-// but a first part of the replies. A write takes so many bytes.
+// but a first part of the replies.
 fn count_writes(rt: &HostRuntime, piece: usize) -> Option<usize> {
     for good in 0..1000 {
-        let mut output = Output::new(rt.alloc(), piece);
-        output.fails_after = Some(good);
-        let input = Input::new(SENT, 1000);
-        let mut connection = Connection { input, output };
-        let ended = serve_over(rt, &FILES, &mut connection);
-        let written = &connection.output.bytes;
-        if !WRITTEN.starts_with(written) || connection.output.calls != good {
-            return None;
-        }
-        if ended == (3, "finished") && written.len() == WRITTEN.len() {
-            return Some(good);
-        }
-        if ended != (0, "write failed") {
-            return None;
+        match fail_write(rt, piece, good) {
+            ((3, "finished"), Some(215)) => return Some(good),
+            ((0, "write failed"), Some(_)) => {}
+            _ => return None,
         }
     }
     None
@@ -138,19 +142,23 @@ fn count_letters(written: &[u8]) -> Option<usize> {
     }
 }
 
+// How a session ends of whose download so many bytes can be read; how many letters the connection gets.
+fn cut_download(rt: &HostRuntime, readable: u64) -> ((u32, &'static str), Option<usize>) {
+    let files = [letters(b"letters.bin", 200_000, readable)];
+    let packages = Shelf { files: &files };
+    let mut connection = Connection::new(rt.alloc(), DOWNLOAD, usize::MAX);
+    let ended = serve_over(rt, &packages, &mut connection);
+    (ended, count_letters(&connection.output.bytes))
+}
+
 // Lets each block of a download be unreadable until none is, and returns how many there are; `None` if a connection gets
 // anything but the blocks before.
 fn count_blocks(rt: &HostRuntime) -> Option<usize> {
-    for good in 0..100 {
-        let files = [letters(b"letters.bin", 200_000, 65536 * good as u64)];
-        let packages = Shelf { files: &files };
-        let mut connection = Connection::new(rt.alloc(), DOWNLOAD, usize::MAX);
-        let ended = serve_over(rt, &packages, &mut connection);
-        if ended == (2, "finished") {
-            return Some(good);
-        }
-        if ended != (1, "cut") || count_letters(&connection.output.bytes) != Some(65536 * good) {
-            return None;
+    for good in 0..100usize {
+        match cut_download(rt, 65536 * good as u64) {
+            ((2, "finished"), _) => return Some(good),
+            ((1, "cut"), Some(count)) if count == 65536 * good => {}
+            _ => return None,
         }
     }
     None

@@ -1,10 +1,9 @@
 use crate::lines::columns;
 use http_desks::Packages;
 use http_devices::{Entry, Folder, OpenPackages};
-use std::alloc::Global;
+use std::alloc::{AllocError, Global};
 use std::fs::File;
 use std::rt::Files;
-use std::test::Fail;
 use std::{env, fs, process, str};
 
 // The path of a name in a folder; it is never freed.
@@ -38,48 +37,43 @@ fn is_filled(rt: &HostRuntime, folder: &str) -> bool {
         && is_linked(rt, folder, "link", "a.bin")
 }
 
-// The path of a name among the temporary files; it is never freed.
-fn temporary_path(rt: &HostRuntime, name: &str) -> Option<&'static str> {
+// The path of a test's folder among the temporary files.
+fn folder_path(rt: &HostRuntime, end: &str) -> Option<&'static str> {
     let temporary = env::temp_dir(rt).ok()?;
-    path_in(rt.alloc(), temporary.as_path().to_str()?, name)
+    let number = process::id(rt.process());
+    let path = format!(in rt.alloc(); "{}/{end}.{number}", temporary.as_path().to_str()?).ok()?;
+    str::from_utf8(path.into_bytes().leak()).ok()
 }
 
 // Makes the folder of a test among the temporary files, whose path ends so.
 fn make_folder(rt: &HostRuntime, end: &str) -> Option<&'static str> {
-    let number = process::id(rt.process());
-    let name = format!(in rt.alloc(); "{end}.{number}").ok()?;
-    let folder = temporary_path(rt, name.as_str())?;
-    fs::create_dir_all(rt, path_in(rt.alloc(), folder, "inner")?).ok()?;
-    if is_filled(rt, folder) {
-        Some(folder)
-    } else {
-        None
+    let folder = folder_path(rt, end)?;
+    let is_made = fs::create_dir_all(rt, path_in(rt.alloc(), folder, "inner")?).is_ok();
+    (is_made && is_filled(rt, folder)).then_some(folder)
+}
+
+// The size of a package that was opened, or why it wasn't.
+fn named(opened: Result<Entry, AllocError>) -> (Option<u64>, &'static str) {
+    match opened {
+        Ok(Entry::File(size)) => (Some(size), "file"),
+        Ok(Entry::Missing) => (None, "missing"),
+        Ok(Entry::NotRegular) => (None, "irregular"),
+        Ok(Entry::Unreadable) => (None, "unreadable"),
+        Err(_) => (None, "memory"),
     }
 }
 
 // Whether a package of a folder has that size, or can't be opened for that reason.
 fn has_size(folder: &Folder<'_, HostRuntime, File>, name: &str, wanted: &str) -> bool {
-    let size = folder.size(name.as_bytes());
-    match folder.open(name.as_bytes()) {
-        Ok(Entry::File(found)) => wanted.parse() == Ok(found) && size == Some(found),
-        Ok(Entry::Missing) => wanted == "missing" && size.is_none(),
-        Ok(Entry::NotRegular) => wanted == "irregular" && size.is_none(),
-        Ok(Entry::Unreadable) => wanted == "unreadable" && size.is_none(),
-        Err(_) => false,
-    }
+    let (size, kind) = named(folder.open(name.as_bytes()));
+    let is_wanted = match size {
+        Some(size) => wanted.parse() == Ok(size),
+        None => wanted == kind,
+    };
+    is_wanted && folder.size(name.as_bytes()) == size
 }
 
-// Whether that is so, and it has three bytes at an offset, or they can't be read.
-fn has(
-    folder: &Folder<'_, HostRuntime, File>,
-    name: &str,
-    at: u64,
-    size: &str,
-    wanted: &str,
-) -> bool {
-    has_size(folder, name, size) && has_bytes(folder, name, at, wanted)
-}
-
+// Whether a package has three bytes at an offset, or they can't be read.
 fn has_bytes(folder: &Folder<'_, HostRuntime, File>, name: &str, at: u64, wanted: &str) -> bool {
     let mut bytes = [0; 3];
     match folder.read_at(name.as_bytes(), at, &mut bytes) {
@@ -110,32 +104,47 @@ const IN_A_FILE: &str = "x|0|missing|failed";
 
 const IN_A_LOOP: &str = "x|0|unreadable|failed";
 
+fn is_so(folder: &Folder<'_, HostRuntime, File>, row: &str) -> bool {
+    let [name, at, size, bytes, _, _] = columns(row);
+    has_size(folder, name, size) && has_bytes(folder, name, at.parse().unwrap_or(0), bytes)
+}
+
 // The first row that the packages of a folder don't have; empty if there is none.
-fn wrong_row<'a>(rt: &HostRuntime, path: &str, rows: &'a str) -> &'a str {
+fn wrong_row(rt: &HostRuntime, path: &str, rows: &'static str) -> &'static str {
     let folder = Folder::new(rt.alloc(), rt, path);
     for row in rows.lines() {
-        let [name, at, size, bytes, _, _] = columns(row);
-        if !has(&folder, name, at.parse().unwrap_or(0), size, bytes) {
+        if !is_so(&folder, row) {
             return row;
         }
     }
     ""
 }
 
+// The first row that isn't so of the packages of a folder, and of a file and of a loop in it.
+fn wrong_in(rt: &HostRuntime, folder: &str) -> Option<&'static str> {
+    let wrong = wrong_row(rt, folder, ROWS);
+    if !wrong.is_empty() {
+        return Some(wrong);
+    }
+    let wrong = wrong_row(rt, path_in(rt.alloc(), folder, "a.bin")?, IN_A_FILE);
+    if !wrong.is_empty() {
+        return Some(wrong);
+    }
+    Some(wrong_row(rt, path_in(rt.alloc(), folder, "loop")?, IN_A_LOOP))
+}
+
+// The same of a folder that is made for it.
+fn wrong_in_new(rt: &HostRuntime) -> Option<&'static str> {
+    let folder = make_folder(rt, "http_rows")?;
+    let wrong = wrong_in(rt, folder);
+    fs::remove_dir_all(rt, folder).ok()?;
+    wrong
+}
+
 // rule: Name of a file
 // rule: Opening a package
 // rule: Read at an offset
 #[test]
-fn opens_the_files_of_its_folder(rt: HostRuntime) -> Result<(), Fail> {
-    let path = make_folder(&rt, "http_rows").ok_or("no folder")?;
-    let file = path_in(rt.alloc(), path, "a.bin").ok_or("no path")?;
-    let looped = path_in(rt.alloc(), path, "loop").ok_or("no path")?;
-    let wrong = wrong_row(&rt, path, ROWS);
-    let wrong_in_file = wrong_row(&rt, file, IN_A_FILE);
-    let wrong_in_loop = wrong_row(&rt, looped, IN_A_LOOP);
-    fs::remove_dir_all(&rt, path)?;
-    assert!(rt; wrong.is_empty(), "{wrong}");
-    assert!(rt; wrong_in_file.is_empty(), "{wrong_in_file}");
-    assert!(rt; wrong_in_loop.is_empty(), "{wrong_in_loop}");
-    Ok(())
+fn opens_the_files_of_its_folder(rt: HostRuntime) {
+    assert_eq!(rt; wrong_in_new(&rt).unwrap_or("no folder"), "");
 }

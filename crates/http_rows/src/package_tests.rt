@@ -1,9 +1,8 @@
 ghost use Rattle.std.specs.Prelude.{◌≡◌, length};
 
 use crate::desks::letters;
-use crate::lines::columns;
 use http_desks::send_package;
-use http_memory::{Output, Shelf};
+use http_memory::{File, Output, Shelf};
 use std::alloc::Global;
 
 // SHA-256 of a million bytes `a`, as NIST's examples of FIPS 180 have it.
@@ -32,41 +31,45 @@ fn send_letters(
     }
 }
 
-// Each row: the size of a package of letters, where it can't be read, whether its digest is that of a million, how many
-// writes don't fail; then how many letters are sent, and how that ends.
-const ROWS: &str = "\
-1000000|1000000|another|99|983040|cut
-1048576|1048576|another|99|983040|cut
-65537|65537|another|99|65536|cut
-65536|65536|another|99|0|cut
-3|3|another|99|0|cut
-1000000|1000000|million|99|1000000|whole
-1000000|983040|million|99|983040|cut
-1000000|65536|million|99|65536|cut
-1000000|0|million|99|0|cut
-1000000|1000000|million|0|0|failed
-1000000|1000000|million|3|196608|failed
-1000000|1000000|million|15|983040|failed
-1000000|1000000|million|16|1000000|whole";
+// Each row: the size of a package of letters, where it can't be read, its digest, how many writes don't fail; then how many
+// letters are sent, and how that ends.
+const ROWS: [(u64, u64, &[u8], usize, usize, &str); 13] = [
+    (1_000_000, 1_000_000, OTHER, 99, 983_040, "cut"),
+    (1_048_576, 1_048_576, OTHER, 99, 983_040, "cut"),
+    (65537, 65537, OTHER, 99, 65536, "cut"),
+    (65536, 65536, OTHER, 99, 0, "cut"),
+    (3, 3, OTHER, 99, 0, "cut"),
+    (1_000_000, 1_000_000, MILLION, 99, 1_000_000, "whole"),
+    (1_000_000, 983_040, MILLION, 99, 983_040, "cut"),
+    (1_000_000, 65536, MILLION, 99, 65536, "cut"),
+    (1_000_000, 0, MILLION, 99, 0, "cut"),
+    (1_000_000, 1_000_000, MILLION, 0, 0, "failed"),
+    (1_000_000, 1_000_000, MILLION, 3, 196_608, "failed"),
+    (1_000_000, 1_000_000, MILLION, 15, 983_040, "failed"),
+    (1_000_000, 1_000_000, MILLION, 16, 1_000_000, "whole"),
+];
 
-// Whether so much of a package is sent as its row says.
-fn is_sent_so(alloc: Global, row: &str) -> Option<bool> {
-    let [size, broken, digest, good, sent, how] = columns(row);
-    let size = size.parse().unwrap_or(0);
+// How many letters of a package are sent, and how that ends.
+fn outcome_of(
+    alloc: Global,
+    files: &[File<'_>],
+    size: u64,
+    hash: &[u8],
+    good: usize,
+) -> Option<(usize, &'static str)> {
     let block = vec![in alloc; 0; 65536].ok()?.leak();
-    let broken = broken.parse().unwrap_or(0);
-    let files = [letters(b"a.bin", size, broken)];
-    let hash = if digest == "million" { MILLION } else { OTHER };
     let mut sink = Output::new(alloc, 65536);
-    sink.fails_after = good.parse().ok();
-    let end = send_letters(&mut sink, block, &Shelf { files: &files }, size, hash);
-    Some(sent.parse() == Ok(sink.bytes.len()) && end == how)
+    sink.fails_after = Some(good);
+    let end = send_letters(&mut sink, block, &Shelf { files }, size, hash);
+    Some((sink.bytes.len(), end))
 }
 
 // rule: Download of a package
 #[test]
 fn cuts_a_package_that_is_not_as_declared(rt: HostRuntime) {
-    for row in ROWS.lines() {
-        assert!(rt; is_sent_so(rt.alloc(), row) == Some(true), "{row}");
+    for (size, broken, hash, good, sent, how) in ROWS {
+        let files = [letters(b"a.bin", size, broken)];
+        let outcome = outcome_of(rt.alloc(), &files, size, hash, good);
+        assert!(rt; outcome == Some((sent, how)), "{size}, {broken}, {good}");
     }
 }

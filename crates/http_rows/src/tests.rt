@@ -1,22 +1,25 @@
 use crate::lines::expand;
 use crate::writers::{Paper, STOPPED};
 use access_logs::AccessLog;
-use http_memory::FixedClock;
 use http_wire::Watch;
 use std::alloc::Global;
 
-// Shows a log a script, a row for each call: `>` and what was read, `<` and what was written, `+` and what waits of the
-// next message, `.` for the end. `~` is the end of a line.
-fn show(alloc: Global, log: &AccessLog<'_, FixedClock, Paper>, script: &str) -> Option<()> {
+// Shows a log a row: `>` and what was read, `<` and what was written, `+` and what waits of the next message, `.` for the
+// end. `~` is the end of a line.
+fn show_row<W: Watch>(log: &W, call: &str, bytes: &[u8]) {
+    match call {
+        ">" => log.reads(bytes),
+        "<" => log.writes(bytes),
+        "+" => log.begins(bytes),
+        _ => log.ends(),
+    }
+}
+
+// Shows a log a script, a row for each call.
+fn show<W: Watch>(alloc: Global, log: &W, script: &str) -> Option<()> {
     for row in script.lines() {
         let (call, text) = row.split_at_checked(1)?;
-        let bytes = expand(alloc, text)?;
-        match call {
-            ">" => log.reads(bytes),
-            "<" => log.writes(bytes),
-            "+" => log.begins(bytes),
-            _ => log.ends(),
-        }
+        show_row(log, call, expand(alloc, text)?);
     }
     Some(())
 }
