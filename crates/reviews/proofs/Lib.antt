@@ -5,6 +5,7 @@ mod IdleLemmas
 mod LargestLemmas
 mod LiftLemmas
 mod ListLemmas
+mod MemberLemmas
 mod OpenLemmas
 mod PictureChainLemmas
 mod PinLemmas

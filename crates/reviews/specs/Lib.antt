@@ -8,6 +8,7 @@ pub mod Labels
 pub mod Largest
 pub mod Lifts
 pub mod Lines
+pub mod Members
 pub mod Objects
 pub mod Reasons
 pub mod ReviewLines

@@ -1,20 +1,19 @@
 //! The review of a change as JSON objects, one on each line.
 
-ghost use Rattle.std.specs.Prelude.{◌≡◌, ◌++◌, IfOk, OnOk, false, option_and_then};
-ghost use Rattle.serde_json.specs.View.{view};
-ghost use Rattle.serde_json.specs.Written.{has_float};
+ghost use Rattle.std.specs.Prelude.{◌≡◌, ◌++◌, IfOk, OnOk, option_and_then};
 ghost use Rattle.reviews.specs.ChangeLines.{line_by};
+ghost use Rattle.reviews.specs.Objects.{object_line};
 ghost use Rattle.reviews.specs.ChangeObjects.{bytes_if, change_data, change_kind, change_objects, change_summary, newly_stuck_object, newly_stuck_objects, offer_object, offer_objects, size_kind, stuck_object};
 
 use crate::change::{Change, Reviewed};
 use crate::change_lines::{bytes_before, bytes_of, is_newly_stuck, newly_stuck_total, was_stuck};
 use crate::line::{cohort_name, find_app, lane_word, spelled_at};
-use crate::objects::{bytes_value, capped, push_object, push_stuck_object};
+use crate::members::{Member, push_object};
+use crate::objects::{capped, push_stuck_object};
 use crate::outcome::Outcome;
 use crate::review::TrackReview;
 use crate::stuck::release_total;
 use catalogue::{App, Catalogue};
-use serde_json::{Value, json};
 use std::alloc::{AllocError, Global};
 
 fn bytes_if(outcome: Outcome) -> Option<u64>
@@ -58,22 +57,25 @@ fn change_kind(change: &Change) -> &'static str
     }
 }
 
-fn change_value(alloc: Global, app: &App, change: &Change) -> Result<Value, AllocError>
-    ensures value { IfOk result (λ value. view value ≡ change_data app.now change.now) }
-    ensures plain { IfOk result (λ value. has_float (view value) ≡ false) }
+fn push_change(
+    alloc: Global,
+    text: &mut Vec<u8>,
+    app: &App,
+    change: &Change,
+) -> Result<(), AllocError>
+    ensures { OnOk result (text.new.items ≡ text.old.items ++ object_line (change_data app.now change.now)) }
 {
-    let after = bytes_value(bytes_if(change.becomes));
-    let before = bytes_value(bytes_was(change.was));
-    json!(in alloc; {
-        "after": after,
-        "app": app.id.as_str(),
-        "before": before,
-        "cohort": cohort_name(app, change.clients.cohort),
-        "downgrade": change.clients.rollback,
-        "kind": change_kind(change),
-        "lane": lane_word(change.clients.lane),
-        "version": spelled_at(app, change.release)
-    })
+    let table = [
+        Member::Bytes("after", bytes_if(change.becomes)),
+        Member::String("app", app.id.as_str()),
+        Member::Bytes("before", bytes_was(change.was)),
+        Member::String("cohort", cohort_name(app, change.clients.cohort)),
+        Member::Boolean("downgrade", change.clients.rollback),
+        Member::String("kind", change_kind(change)),
+        Member::String("lane", lane_word(change.clients.lane)),
+        Member::String("version", spelled_at(app, change.release)),
+    ];
+    push_object(alloc, text, &table)
 }
 
 // Adds the line of a release that is stuck after a change, and none for any other.
@@ -132,8 +134,7 @@ fn push_offer_object(
     if is_newly_stuck(change) {
         return Ok(());
     }
-    let value = change_value(alloc, app, change)?;
-    push_object(alloc, text, &value)
+    push_change(alloc, text, app, change)
 }
 
 fn push_newly_stuck_object_of(
@@ -192,21 +193,23 @@ fn push_offer_objects(
     Ok(())
 }
 
-fn change_summary(
+fn push_summary(
     alloc: Global,
+    text: &mut Vec<u8>,
     reviews: &[TrackReview],
     changes: &[Change],
-) -> Result<Value, AllocError>
-    ensures { IfOk result (λ value. view value ≡ change_summary reviews.now changes.now) }
+) -> Result<(), AllocError>
+    ensures { OnOk result (text.new.items ≡ text.old.items ++ object_line (change_summary reviews.now changes.now)) }
 {
     let releases = capped(release_total(reviews));
-    json!(in alloc; {
-        "changed": changes.len(),
-        "kind": "summary",
-        "newly_stuck": newly_stuck_total(changes),
-        "releases": releases,
-        "tracks": reviews.len()
-    })
+    let table = [
+        Member::Whole("changed", changes.len() as u64),
+        Member::String("kind", "summary"),
+        Member::Whole("newly_stuck", newly_stuck_total(changes) as u64),
+        Member::Whole("releases", releases),
+        Member::Whole("tracks", reviews.len() as u64),
+    ];
+    push_object(alloc, text, &table)
 }
 
 // rule: Change as JSON
@@ -221,10 +224,9 @@ pub fn write_change_objects(
 ) -> Result<Vec<u8>, AllocError>
     ensures { IfOk result (λ text. text.items ≡ change_objects after.now.catalogue.now after.now.tracks.now changes.now) }
 {
-    let summary = change_summary(alloc, after.tracks, changes)?;
     let mut text = Vec::new(alloc);
     push_newly_stuck_objects(alloc, &mut text, after.catalogue, changes)?;
     push_offer_objects(alloc, &mut text, after.catalogue, changes)?;
-    push_object(alloc, &mut text, &summary)?;
+    push_summary(alloc, &mut text, after.tracks, changes)?;
     Ok(text)
 }

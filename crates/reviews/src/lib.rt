@@ -28,6 +28,7 @@ mod later;
 mod lifting;
 mod line;
 mod markup;
+mod members;
 mod objects;
 mod outcome;
 mod pictures;

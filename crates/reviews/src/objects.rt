@@ -1,21 +1,18 @@
 //! Reviews as JSON objects, one on each line.
 
-ghost use Rattle.std.specs.Prelude.{◌≡◌, ◌++◌, IfOk, OnOk, false};
-ghost use Rattle.serde_json.specs.Data.{Data};
-ghost use Rattle.serde_json.specs.View.{view};
-ghost use Rattle.serde_json.specs.Written.{has_float};
-ghost use Rattle.reviews.specs.Objects.{all_objects, bytes_data, capped, chain_data, chain_object, chain_objects, newcomers_bytes, newcomers_data, object_line, review_objects, stuck_data, stuck_line, stuck_objects, summary_data, track_data, track_objects, track_objects_among};
+ghost use Rattle.std.specs.Prelude.{◌≡◌, ◌++◌, IfOk, OnOk};
+ghost use Rattle.reviews.specs.Objects.{all_objects, capped, chain_data, chain_object, chain_objects, newcomers_bytes, newcomers_data, object_line, review_objects, stuck_data, stuck_line, stuck_objects, summary_data, track_data, track_objects, track_objects_among};
 
 use crate::cause::Reason;
 use crate::change::Clients;
 use crate::largest::Largest;
 use crate::line::{cohort_name, find_app, lane_word, spelled_at};
+use crate::members::{Member, push_object};
 use crate::review::TrackReview;
 use crate::review_lines::{bytes_from, clients_on, steps_from};
 use crate::stuck::{StuckRelease, count_stuck, release_total, stuck_of, stuck_total};
 use catalogue::{App, Catalogue};
 use price_cert::Quote;
-use serde_json::{Value, json};
 use std::alloc::{AllocError, Global};
 
 /// A total; one past the largest number of 64 bits is that.
@@ -29,48 +26,6 @@ pub(crate) fn capped(total: u128) -> u64
     }
 }
 
-/// Adds an object without a float, on a line of its own.
-#[tactic(auto, unfolding(crate::specs::Objects::object_line))]
-pub(crate) fn push_object(
-    alloc: Global,
-    text: &mut Vec<u8>,
-    value: &Value,
-) -> Result<(), AllocError>
-    requires { has_float (view value.now) ≡ false }
-    ensures { OnOk result (text.new.items ≡ text.old.items ++ object_line (view value.now)) }
-{
-    let line = value.to_vec(alloc)?;
-    text.extend_from_slice(line.as_slice())?;
-    text.push(b'\n')?;
-    Ok(())
-}
-
-/// Bytes as a value.
-pub(crate) fn bytes_value(bytes: Option<u64>) -> Value
-    ensures value { view result ≡ bytes_data bytes }
-    ensures plain { has_float (view result) ≡ false }
-{
-    match bytes {
-        Some(bytes) => Value::from(bytes),
-        None => Value::Null,
-    }
-}
-
-fn track_value(alloc: Global, app: &App, review: &TrackReview) -> Result<Value, AllocError>
-    ensures { IfOk result (λ value. view value ≡ track_data app.now review.now) }
-{
-    json!(in alloc; {
-        "app": app.id.as_str(),
-        "cohort": cohort_name(app, review.key.cohort),
-        "downgrade": review.key.rollback,
-        "kind": "track",
-        "lane": lane_word(review.key.lane),
-        "releases": review.outcomes.len(),
-        "stuck": count_stuck(review.outcomes.as_slice()),
-        "target": spelled_at(app, review.target)
-    })
-}
-
 fn push_track_object(
     alloc: Global,
     text: &mut Vec<u8>,
@@ -79,47 +34,42 @@ fn push_track_object(
 ) -> Result<(), AllocError>
     ensures { OnOk result (text.new.items ≡ text.old.items ++ object_line (track_data app.now review.now)) }
 {
-    let value = track_value(alloc, app, review)?;
-    push_object(alloc, text, &value)
-}
-
-// A stuck release, and why it is stuck.
-fn stuck_value(
-    alloc: Global,
-    app: &App,
-    kind: &str,
-    clients: &Clients,
-    release: usize,
-    reason: Reason,
-) -> Result<Value, AllocError>
-    ensures { IfOk result (λ value. view value ≡ stuck_data app.now kind.now clients.now release reason) }
-{
-    let reason = format!(in alloc; "{reason}")?;
-    json!(in alloc; {
-        "app": app.id.as_str(),
-        "cohort": cohort_name(app, clients.cohort),
-        "downgrade": clients.rollback,
-        "kind": kind,
-        "lane": lane_word(clients.lane),
-        "reason": reason.as_str(),
-        "version": spelled_at(app, release)
-    })
+    let table = [
+        Member::String("app", app.id.as_str()),
+        Member::String("cohort", cohort_name(app, review.key.cohort)),
+        Member::Boolean("downgrade", review.key.rollback),
+        Member::String("kind", "track"),
+        Member::String("lane", lane_word(review.key.lane)),
+        Member::Whole("releases", review.outcomes.len() as u64),
+        Member::Whole("stuck", count_stuck(review.outcomes.as_slice()) as u64),
+        Member::String("target", spelled_at(app, review.target)),
+    ];
+    push_object(alloc, text, &table)
 }
 
 /// Adds the line of a stuck release.
-pub(crate) fn push_stuck_object(
+pub(crate) fn push_stuck_object<'x>(
     alloc: Global,
     text: &mut Vec<u8>,
-    app: &App,
-    kind: &str,
+    app: &'x App,
+    kind: &'x str,
     clients: &Clients,
     release: usize,
     reason: Reason,
 ) -> Result<(), AllocError>
     ensures { OnOk result (text.new.items ≡ text.old.items ++ object_line (stuck_data app.now kind.now clients.now release reason)) }
 {
-    let value = stuck_value(alloc, app, kind, clients, release, reason)?;
-    push_object(alloc, text, &value)
+    let reason = format!(in alloc; "{reason}")?;
+    let table = [
+        Member::String("app", app.id.as_str()),
+        Member::String("cohort", cohort_name(app, clients.cohort)),
+        Member::Boolean("downgrade", clients.rollback),
+        Member::String("kind", kind),
+        Member::String("lane", lane_word(clients.lane)),
+        Member::String("reason", reason.as_str()),
+        Member::String("version", spelled_at(app, release)),
+    ];
+    push_object(alloc, text, &table)
 }
 
 // Adds the line of a stuck release of a track.
@@ -151,25 +101,27 @@ fn push_stuck_objects(
     Ok(())
 }
 
-fn chain_value(
+fn push_chain<'x>(
     alloc: Global,
-    app: &App,
-    kind: &str,
+    text: &mut Vec<u8>,
+    app: &'x App,
+    kind: &'x str,
     review: &TrackReview,
     best: &Largest,
-) -> Result<Value, AllocError>
-    ensures { IfOk result (λ value. view value ≡ chain_data app.now kind.now review.now best.now) }
+) -> Result<(), AllocError>
+    ensures { OnOk result (text.new.items ≡ text.old.items ++ object_line (chain_data app.now kind.now review.now best.now)) }
 {
-    json!(in alloc; {
-        "app": app.id.as_str(),
-        "bytes": bytes_from(review, best.from),
-        "cohort": cohort_name(app, review.key.cohort),
-        "downgrade": review.key.rollback,
-        "from": spelled_at(app, best.from),
-        "kind": kind,
-        "lane": lane_word(review.key.lane),
-        "steps": steps_from(review, best.from)
-    })
+    let table = [
+        Member::String("app", app.id.as_str()),
+        Member::Whole("bytes", bytes_from(review, best.from)),
+        Member::String("cohort", cohort_name(app, review.key.cohort)),
+        Member::Boolean("downgrade", review.key.rollback),
+        Member::String("from", spelled_at(app, best.from)),
+        Member::String("kind", kind),
+        Member::String("lane", lane_word(review.key.lane)),
+        Member::Whole("steps", steps_from(review, best.from)),
+    ];
+    push_object(alloc, text, &table)
 }
 
 // Adds the line of a chain, and none if no release has one.
@@ -185,10 +137,7 @@ fn push_chain_object(
 {
     match largest {
         None => Ok(()),
-        Some(best) => {
-            let value = chain_value(alloc, app, kind, review, &best)?;
-            push_object(alloc, text, &value)
-        }
+        Some(best) => push_chain(alloc, text, app, kind, review, &best),
     }
 }
 
@@ -202,21 +151,6 @@ fn newcomers_bytes(newcomers: Quote) -> Option<u64>
     }
 }
 
-fn newcomers_value(alloc: Global, app: &App, review: &TrackReview) -> Result<Value, AllocError>
-    ensures value { IfOk result (λ value. view value ≡ newcomers_data app.now review.now) }
-    ensures plain { IfOk result (λ value. has_float (view value) ≡ false) }
-{
-    let bytes = bytes_value(newcomers_bytes(review.newcomers));
-    json!(in alloc; {
-        "app": app.id.as_str(),
-        "bytes": bytes,
-        "cohort": cohort_name(app, review.key.cohort),
-        "downgrade": review.key.rollback,
-        "kind": "new",
-        "lane": lane_word(review.key.lane)
-    })
-}
-
 fn push_newcomers_object(
     alloc: Global,
     text: &mut Vec<u8>,
@@ -225,8 +159,15 @@ fn push_newcomers_object(
 ) -> Result<(), AllocError>
     ensures { OnOk result (text.new.items ≡ text.old.items ++ object_line (newcomers_data app.now review.now)) }
 {
-    let value = newcomers_value(alloc, app, review)?;
-    push_object(alloc, text, &value)
+    let table = [
+        Member::String("app", app.id.as_str()),
+        Member::Bytes("bytes", newcomers_bytes(review.newcomers)),
+        Member::String("cohort", cohort_name(app, review.key.cohort)),
+        Member::Boolean("downgrade", review.key.rollback),
+        Member::String("kind", "new"),
+        Member::String("lane", lane_word(review.key.lane)),
+    ];
+    push_object(alloc, text, &table)
 }
 
 // Adds the lines of the chains of a track, and of clients outside of all releases.
@@ -288,17 +229,22 @@ fn push_all_objects(
     Ok(())
 }
 
-fn summary_value(alloc: Global, reviews: &[TrackReview]) -> Result<Value, AllocError>
-    ensures { IfOk result (λ value. view value ≡ summary_data reviews.now) }
+fn push_summary(
+    alloc: Global,
+    text: &mut Vec<u8>,
+    reviews: &[TrackReview],
+) -> Result<(), AllocError>
+    ensures { OnOk result (text.new.items ≡ text.old.items ++ object_line (summary_data reviews.now)) }
 {
     let releases = capped(release_total(reviews));
     let stuck = capped(stuck_total(reviews));
-    json!(in alloc; {
-        "kind": "summary",
-        "releases": releases,
-        "stuck": stuck,
-        "tracks": reviews.len()
-    })
+    let table = [
+        Member::String("kind", "summary"),
+        Member::Whole("releases", releases),
+        Member::Whole("stuck", stuck),
+        Member::Whole("tracks", reviews.len() as u64),
+    ];
+    push_object(alloc, text, &table)
 }
 
 // rule: Review as JSON
@@ -313,9 +259,8 @@ pub fn write_review_objects(
 ) -> Result<Vec<u8>, AllocError>
     ensures { IfOk result (λ text. text.items ≡ review_objects catalogue.now reviews.now) }
 {
-    let summary = summary_value(alloc, reviews)?;
     let mut text = Vec::new(alloc);
     push_all_objects(alloc, &mut text, catalogue, reviews)?;
-    push_object(alloc, &mut text, &summary)?;
+    push_summary(alloc, &mut text, reviews)?;
     Ok(text)
 }
