@@ -28,7 +28,7 @@ use crate::serve_arguments::{read_serve, serve_command};
 use crate::stop_arguments::{read_stop, stop_command};
 use crate::walk_arguments::{read_walk, walk_command};
 use clap::{ArgMatches, Error};
-use std::alloc::Global;
+use std::alloc::{AllocError, Global};
 
 /// The version of the program.
 pub const VERSION: &str = "0.2.0";
@@ -45,41 +45,41 @@ Example: a client without an installed version asks for the built-in app `mini`.
 
 // The program without its commands.
 fn plain_command<'a>(alloc: Global) -> Making<'a>
-    ensures { IsMade plain_app result }
+    ensures { IsMade plain_app result.made }
 {
     let command = clap::Command::new(alloc, "omaha")
         .no_binary_name(true)
         .version(VERSION)
         .about(OMAHA)
         .after_help(AFTER_OMAHA);
-    command.bin_name("omaha")
+    Making::of(command.bin_name("omaha"))
 }
 
 // The program with one more command, which is made.
 fn with_made<'a>(program: Making<'a>, command: clap::Command<'a>) -> Making<'a>
-    ensures { (app own : App) → own.top.is_plain ≡ true → IsMade app program.entry → app_of command.entry ≡ own →
-        IsMade (with_subcommand app own.top) result }
+    ensures { (app own : App) → own.top.is_plain ≡ true → IsMade app program.entry.made → app_of command.entry ≡ own →
+        IsMade (with_subcommand app own.top) result.made }
 {
-    match program {
-        Ok(program) => program.subcommand(command),
-        Err(error) => Err(error),
+    match program.into_made() {
+        Ok(program) => Making::of(program.subcommand(command)),
+        Err(error) => Making::of(Err(error)),
     }
 }
 
 // The program with one more command, which has `--verbose` too.
 fn with_command<'a>(alloc: Global, program: Making<'a>, command: Making<'a>) -> Making<'a>
-    ensures { (app own : App) → (with_verbose own).top.is_plain ≡ true → IsMade app program.entry → IsMade own command.entry →
-        IsMade (with_subcommand app (with_verbose own).top) result }
+    ensures { (app own : App) → (with_verbose own).top.is_plain ≡ true → IsMade app program.entry.made → IsMade own command.entry.made →
+        IsMade (with_subcommand app (with_verbose own).top) result.made }
 {
-    match with_verbose(alloc, command) {
+    match with_verbose(alloc, command).into_made() {
         Ok(command) => with_made(program, command),
-        Err(error) => Err(error),
+        Err(error) => Making::of(Err(error)),
     }
 }
 
-// The program with its commands, those for operators first.
-fn omaha_command<'a>(alloc: Global) -> Making<'a>
-    ensures { IsMade omaha_app result }
+// The program with its commands, those for operators first, as it is being made.
+fn making_omaha<'a>(alloc: Global) -> Making<'a>
+    ensures { IsMade omaha_app result.made }
 {
     let program = plain_command(alloc);
     let program = with_command(alloc, program, serve_command(alloc));
@@ -99,6 +99,13 @@ fn omaha_command<'a>(alloc: Global) -> Making<'a>
     let program = with_command(alloc, program, verify_command(alloc));
     let program = with_command(alloc, program, explain_command(alloc));
     with_command(alloc, program, once_command(alloc))
+}
+
+// The program with its commands.
+fn omaha_command<'a>(alloc: Global) -> Result<clap::Command<'a>, AllocError>
+    ensures { IsMade omaha_app result }
+{
+    making_omaha(alloc).into_made()
 }
 
 // Reads the arguments of `check`.

@@ -46,18 +46,19 @@ Examples:
   omaha graph profile.toml editor --cohort stable --from 1.0 > stable.svg
   omaha graph profile.toml editor --dot | dot -Tpng > editor.png";
 
+const ENTRIES: [Entry<'static>; 5] = [
+    Entry::Wanted("F", "The profile"),
+    Entry::Wanted("APP", "The app's name"),
+    Entry::PlainOption("cohort", "C", COHORT),
+    Entry::PlainOption("from", "V", FROM),
+    Entry::Flag("dot", DOT),
+];
+
 pub(crate) fn graph_command<'a>(alloc: Global) -> Making<'a>
-    ensures { IsMade graph_app result }
+    ensures { IsMade graph_app result.made }
 {
     let command = titled(alloc, "graph", GRAPH, AFTER_GRAPH);
-    let entries = [
-        Entry::Wanted("F", "The profile"),
-        Entry::Wanted("APP", "The app's name"),
-        Entry::PlainOption("cohort", "C", COHORT),
-        Entry::PlainOption("from", "V", FROM),
-        Entry::Flag("dot", DOT),
-    ];
-    with_entries(alloc, command, &entries)
+    with_entries(alloc, command, &ENTRIES)
 }
 
 // What is drawn, and how.

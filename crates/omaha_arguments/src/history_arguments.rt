@@ -42,7 +42,7 @@ Example: the way back to edition 4, as a profile for a new history.
   omaha history export --edition 4 history.db > profile.toml";
 
 pub(crate) fn history_command<'a>(alloc: Global) -> Making<'a>
-    ensures { IsMade history_app result }
+    ensures { IsMade history_app result.made }
 {
     let command = titled(alloc, "history", HISTORY, AFTER_HISTORY);
     let entries = [

@@ -46,7 +46,7 @@ Example: a client without an installed version asks for the built-in app `mini`.
     omaha once --moment 1767229261";
 
 pub(crate) fn once_command<'a>(alloc: Global) -> Making<'a>
-    ensures { IsMade once_app result }
+    ensures { IsMade once_app result.made }
 {
     let command = titled(alloc, "once", ONCE, AFTER_ONCE);
     let entries = [

@@ -154,35 +154,37 @@ Exit status: 0 if the status was printed, 1 if the server gave another reply or 
 Example, against `omaha serve` with `--operator 127.0.0.1:8081`:
   omaha status --to 127.0.0.1:8081";
 
+const PUBLISH_ENTRIES: [Entry<'static>; 5] = [
+    Entry::WantedOption("to", "ADDR", TO),
+    Entry::Flag("check", CHECK),
+    Entry::PlainOption("packages", "DIR", PACKAGES),
+    Entry::PlainOption("timeout", "SECONDS", TIMEOUT),
+    Entry::Wanted("F", SCRIPT),
+];
+
 pub(crate) fn publish_command<'a>(alloc: Global) -> Making<'a>
-    ensures { IsMade publish_app result }
+    ensures { IsMade publish_app result.made }
 {
     let command = titled(alloc, "publish", PUBLISH, AFTER_PUBLISH);
-    let entries = [
-        Entry::WantedOption("to", "ADDR", TO),
-        Entry::Flag("check", CHECK),
-        Entry::PlainOption("packages", "DIR", PACKAGES),
-        Entry::PlainOption("timeout", "SECONDS", TIMEOUT),
-        Entry::Wanted("F", SCRIPT),
-    ];
-    with_entries(alloc, command, &entries)
+    with_entries(alloc, command, &PUBLISH_ENTRIES)
 }
 
+const RAISE_ENTRIES: [Entry<'static>; 4] = [
+    Entry::WantedOption("to", "ADDR", TO),
+    Entry::PlainOption("timeout", "SECONDS", TIMEOUT),
+    Entry::Wanted("NAME", NAME),
+    Entry::Wanted("BUDGET", BUDGET),
+];
+
 pub(crate) fn raise_command<'a>(alloc: Global) -> Making<'a>
-    ensures { IsMade raise_app result }
+    ensures { IsMade raise_app result.made }
 {
     let command = titled(alloc, "raise", RAISE, AFTER_RAISE);
-    let entries = [
-        Entry::WantedOption("to", "ADDR", TO),
-        Entry::PlainOption("timeout", "SECONDS", TIMEOUT),
-        Entry::Wanted("NAME", NAME),
-        Entry::Wanted("BUDGET", BUDGET),
-    ];
-    with_entries(alloc, command, &entries)
+    with_entries(alloc, command, &RAISE_ENTRIES)
 }
 
 pub(crate) fn dump_command<'a>(alloc: Global) -> Making<'a>
-    ensures { IsMade dump_app result }
+    ensures { IsMade dump_app result.made }
 {
     let command = titled(alloc, "dump", DUMP, AFTER_DUMP);
     let entries = [
@@ -193,7 +195,7 @@ pub(crate) fn dump_command<'a>(alloc: Global) -> Making<'a>
 }
 
 pub(crate) fn status_command<'a>(alloc: Global) -> Making<'a>
-    ensures { IsMade status_app result }
+    ensures { IsMade status_app result.made }
 {
     let command = titled(alloc, "status", STATUS, AFTER_STATUS);
     let entries = [

@@ -11,7 +11,34 @@ use values::{Items, Text};
 const VERBOSE: &str = "Say more on standard error [default: if that is a terminal]";
 
 /// A command that is being made, or that memory ran out: each function below passes a failure on.
-pub(crate) type Making<'a> = Result<clap::Command<'a>, AllocError>;
+pub(crate) struct Making<'a> {
+    /// The command, unless memory ran out.
+    pub(crate) made: Result<clap::Command<'a>, AllocError>,
+}
+
+// Written out, so that no caller proves again how each of the many parts of a command is dropped.
+impl Drop for Making<'_> {
+    fn drop(self) {
+        let Making { made: _ } = self;
+    }
+}
+
+impl<'a> Making<'a> {
+    /// Takes a command, or that memory ran out.
+    pub(crate) fn of(made: Result<clap::Command<'a>, AllocError>) -> Making<'a>
+        ensures { result.made ≡ made.entry }
+    {
+        Making { made }
+    }
+
+    /// Gives the command, or that memory ran out.
+    pub(crate) fn into_made(self) -> Result<clap::Command<'a>, AllocError>
+        ensures { result ≡ self.entry.made }
+    {
+        let Making { made } = self;
+        made
+    }
+}
 
 /// A command with a name and its help.
 pub(crate) fn titled<'a>(
@@ -20,21 +47,21 @@ pub(crate) fn titled<'a>(
     about: &'a str,
     after_help: &'a str,
 ) -> Making<'a>
-    ensures { IsMade (new_app name.entry.now) result }
+    ensures { IsMade (new_app name.entry.now) result.made }
 {
     let command = clap::Command::new(alloc, name)
         .about(about)
         .after_help(after_help);
-    Ok(command)
+    Making::of(Ok(command))
 }
 
 // The command with one more argument.
 fn with_arg<'a>(command: Making<'a>, argument: Arg<'a>) -> Making<'a>
-    ensures { (app : App) → argument.entry.global ≡ false → IsMade app command.entry → IsMade (with_rule app (rule_of argument.entry)) result }
+    ensures { (app : App) → argument.entry.global ≡ false → IsMade app command.entry.made → IsMade (with_rule app (rule_of argument.entry)) result.made }
 {
-    match command {
-        Ok(command) => command.arg(argument),
-        Err(error) => Err(error),
+    match command.into_made() {
+        Ok(command) => Making::of(command.arg(argument)),
+        Err(error) => Making::of(Err(error)),
     }
 }
 
@@ -114,7 +141,7 @@ fn argument_of<'a>(alloc: Global, entry: Entry<'a>) -> Arg<'a>
 
 /// The command with `--verbose`, which each command has.
 pub(crate) fn with_verbose<'a>(alloc: Global, command: Making<'a>) -> Making<'a>
-    ensures { (app : App) → IsMade app command.entry → IsMade (with_verbose app) result }
+    ensures { (app : App) → IsMade app command.entry.made → IsMade (with_verbose app) result.made }
 {
     with_arg(command, flag(alloc, "verbose", VERBOSE))
 }
@@ -125,7 +152,7 @@ pub(crate) fn with_entries<'a>(
     command: Making<'a>,
     entries: &[Entry<'a>],
 ) -> Making<'a>
-    ensures { (app : App) → IsMade app command.entry → IsMade (with_entries app entries.now) result }
+    ensures { (app : App) → IsMade app command.entry.made → IsMade (with_entries app entries.now) result.made }
 {
     let mut made = command;
     for entry in entries {

@@ -17,9 +17,9 @@ pub(crate) fn out_of_memory(error: AllocError) -> Error
 
 // The command under its full name.
 fn with_name<'a>(command: Making<'a>, name: &str) -> Making<'a> {
-    match command {
-        Ok(command) => command.bin_name(name),
-        Err(error) => Err(error),
+    match command.into_made() {
+        Ok(command) => Making::of(command.bin_name(name)),
+        Err(error) => Making::of(Err(error)),
     }
 }
 
@@ -33,7 +33,7 @@ fn error_with_usage(
 ) -> Result<Error, AllocError>
     ensures { IfOk result (λ error. kind_of error ≡ kind) }
 {
-    match with_name(with_verbose(alloc, command), name) {
+    match with_name(with_verbose(alloc, command), name).into_made() {
         Ok(mut command) => command.error(kind, message),
         Err(error) => Err(error),
     }

@@ -126,56 +126,58 @@ invalid.
 Example:
   omaha explain C11";
 
+const CHECK_ENTRIES: [Entry<'static>; 5] = [
+    Entry::Wanted("F", "The profile"),
+    Entry::PlainOption(
+        "packages",
+        "DIR",
+        "The folder of the packages [default: they are not compared]",
+    ),
+    Entry::PlainOption(
+        "workers",
+        "N",
+        "How many threads make the tables of prices, 1 to 8 [default: 1]",
+    ),
+    Entry::Flag("warn", "Warn of targets that no client can reach"),
+    Entry::PlainOption(
+        "script",
+        "S",
+        "The script that is applied to the profile, and checked [default: none]",
+    ),
+];
+
 pub(crate) fn check_command<'a>(alloc: Global) -> Making<'a>
-    ensures { IsMade check_app result }
+    ensures { IsMade check_app result.made }
 {
     let command = titled(alloc, "check", CHECK, AFTER_CHECK);
-    let entries = [
-        Entry::Wanted("F", "The profile"),
-        Entry::PlainOption(
-            "packages",
-            "DIR",
-            "The folder of the packages [default: they are not compared]",
-        ),
-        Entry::PlainOption(
-            "workers",
-            "N",
-            "How many threads make the tables of prices, 1 to 8 [default: 1]",
-        ),
-        Entry::Flag("warn", "Warn of targets that no client can reach"),
-        Entry::PlainOption(
-            "script",
-            "S",
-            "The script that is applied to the profile, and checked [default: none]",
-        ),
-    ];
-    with_entries(alloc, command, &entries)
+    with_entries(alloc, command, &CHECK_ENTRIES)
 }
 
 pub(crate) fn describe_command<'a>(alloc: Global) -> Making<'a>
-    ensures { IsMade describe_app result }
+    ensures { IsMade describe_app result.made }
 {
     let command = titled(alloc, "describe", DESCRIBE, AFTER_DESCRIBE);
     let entries = [Entry::WantedList("FILE", "A package")];
     with_entries(alloc, command, &entries)
 }
 
+const CERTIFY_ENTRIES: [Entry<'static>; 5] = [
+    Entry::Wanted("F", "The profile"),
+    Entry::Wanted("APP", "The app's identifier"),
+    Entry::Wanted("COHORT", "The cohort's name"),
+    Entry::Wanted("LANE", "`target` or `held`"),
+    Entry::Wanted("ROLLBACK", "`yes` or `no`"),
+];
+
 pub(crate) fn certify_command<'a>(alloc: Global) -> Making<'a>
-    ensures { IsMade certify_app result }
+    ensures { IsMade certify_app result.made }
 {
     let command = titled(alloc, "certify", CERTIFY, AFTER_CERTIFY);
-    let entries = [
-        Entry::Wanted("F", "The profile"),
-        Entry::Wanted("APP", "The app's identifier"),
-        Entry::Wanted("COHORT", "The cohort's name"),
-        Entry::Wanted("LANE", "`target` or `held`"),
-        Entry::Wanted("ROLLBACK", "`yes` or `no`"),
-    ];
-    with_entries(alloc, command, &entries)
+    with_entries(alloc, command, &CERTIFY_ENTRIES)
 }
 
 pub(crate) fn verify_command<'a>(alloc: Global) -> Making<'a>
-    ensures { IsMade verify_app result }
+    ensures { IsMade verify_app result.made }
 {
     let command = titled(alloc, "verify", VERIFY, AFTER_VERIFY);
     let entries = [
@@ -186,7 +188,7 @@ pub(crate) fn verify_command<'a>(alloc: Global) -> Making<'a>
 }
 
 pub(crate) fn explain_command<'a>(alloc: Global) -> Making<'a>
-    ensures { IsMade explain_app result }
+    ensures { IsMade explain_app result.made }
 {
     let command = titled(alloc, "explain", EXPLAIN, AFTER_EXPLAIN);
     let entries = [Entry::Optional("CODE", "The code, or the first word of the line")];

@@ -78,19 +78,20 @@ Examples:
   omaha review profile.toml --json | jq -r 'select(.kind == "stuck") | .version'
   omaha review --to 127.0.0.1:8081 --script stage.toml --strict"#;
 
+const ENTRIES: [Entry<'static>; 6] = [
+    Entry::Optional("F", "The profile"),
+    Entry::PlainOption("to", "ADDR", TO),
+    Entry::PlainOption("script", "S", SCRIPT),
+    Entry::Flag("all", ALL),
+    Entry::Flag("json", JSON),
+    Entry::Flag("strict", STRICT),
+];
+
 pub(crate) fn review_command<'a>(alloc: Global) -> Making<'a>
-    ensures { IsMade review_app result }
+    ensures { IsMade review_app result.made }
 {
     let command = titled(alloc, "review", REVIEW, AFTER_REVIEW);
-    let entries = [
-        Entry::Optional("F", "The profile"),
-        Entry::PlainOption("to", "ADDR", TO),
-        Entry::PlainOption("script", "S", SCRIPT),
-        Entry::Flag("all", ALL),
-        Entry::Flag("json", JSON),
-        Entry::Flag("strict", STRICT),
-    ];
-    with_entries(alloc, command, &entries)
+    with_entries(alloc, command, &ENTRIES)
 }
 
 // Whether a profile is named, or a server, and not both.

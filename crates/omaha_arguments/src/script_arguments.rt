@@ -62,7 +62,7 @@ Example: a tenth of the clients of a cohort get its target.
   omaha script --to 127.0.0.1:8081 set_share app=editor cohort=stable share=100 > widen.toml";
 
 pub(crate) fn script_command<'a>(alloc: Global) -> Making<'a>
-    ensures { IsMade script_app result }
+    ensures { IsMade script_app result.made }
 {
     let command = titled(alloc, "script", SCRIPT, AFTER_SCRIPT);
     let entries = [

@@ -123,43 +123,45 @@ Example:
   omaha serve --profile profile.toml --packages packages --listen 127.0.0.1:8080 \\
     --operator 127.0.0.1:8081 --workers 4";
 
+const PLACES: [Entry<'static>; 9] = [
+    Entry::PlainOption("profile", "F", PROFILE),
+    Entry::PlainOption("history", "FILE", HISTORY),
+    Entry::PlainOption("history-limit", "BYTES", HISTORY_LIMIT),
+    Entry::PlainOption("follow", "MS", FOLLOW),
+    Entry::WantedOption("packages", "DIR", PACKAGES),
+    Entry::Flag("packages-must-exist", MUST_EXIST),
+    Entry::WantedOption("listen", "ADDR", LISTEN),
+    Entry::PlainOption("operator", "ADDR", OPERATOR),
+    Entry::Flag("operator-anywhere", ANYWHERE),
+];
+
 // The command with the options of what it serves and where.
 fn with_places<'a>(alloc: Global, command: Making<'a>) -> Making<'a>
-    ensures { (app : App) → IsMade app command.entry → IsMade (with_places app) result }
+    ensures { (app : App) → IsMade app command.entry.made → IsMade (with_places app) result.made }
 {
-    let entries = [
-        Entry::PlainOption("profile", "F", PROFILE),
-        Entry::PlainOption("history", "FILE", HISTORY),
-        Entry::PlainOption("history-limit", "BYTES", HISTORY_LIMIT),
-        Entry::PlainOption("follow", "MS", FOLLOW),
-        Entry::WantedOption("packages", "DIR", PACKAGES),
-        Entry::Flag("packages-must-exist", MUST_EXIST),
-        Entry::WantedOption("listen", "ADDR", LISTEN),
-        Entry::PlainOption("operator", "ADDR", OPERATOR),
-        Entry::Flag("operator-anywhere", ANYWHERE),
-    ];
-    with_entries(alloc, command, &entries)
+    with_entries(alloc, command, &PLACES)
 }
+
+const LIMITS: [Entry<'static>; 8] = [
+    Entry::PlainOption("workers", "N", WORKERS),
+    Entry::PlainOption("sessions", "K", SESSIONS),
+    Entry::PlainOption("edits", "M", EDITS),
+    Entry::PlainOption("timeout", "SECONDS", TIMEOUT),
+    Entry::PlainOption("idle", "SECONDS", IDLE),
+    Entry::PlainOption("connections", "COUNT", CONNECTIONS),
+    Entry::PlainOption("pinned-tables", "COUNT", PINNED),
+    Entry::PlainOption("log", "FILE", LOG),
+];
 
 // The command with the options of how much it serves, and of the log.
 fn with_limits<'a>(alloc: Global, command: Making<'a>) -> Making<'a>
-    ensures { (app : App) → IsMade app command.entry → IsMade (with_limits app) result }
+    ensures { (app : App) → IsMade app command.entry.made → IsMade (with_limits app) result.made }
 {
-    let entries = [
-        Entry::PlainOption("workers", "N", WORKERS),
-        Entry::PlainOption("sessions", "K", SESSIONS),
-        Entry::PlainOption("edits", "M", EDITS),
-        Entry::PlainOption("timeout", "SECONDS", TIMEOUT),
-        Entry::PlainOption("idle", "SECONDS", IDLE),
-        Entry::PlainOption("connections", "COUNT", CONNECTIONS),
-        Entry::PlainOption("pinned-tables", "COUNT", PINNED),
-        Entry::PlainOption("log", "FILE", LOG),
-    ];
-    with_entries(alloc, command, &entries)
+    with_entries(alloc, command, &LIMITS)
 }
 
 pub(crate) fn serve_command<'a>(alloc: Global) -> Making<'a>
-    ensures { IsMade serve_app result }
+    ensures { IsMade serve_app result.made }
 {
     let command = titled(alloc, "serve", SERVE, AFTER_SERVE);
     let command = with_places(alloc, command);

@@ -45,7 +45,7 @@ Example, against `omaha serve` with `--operator 127.0.0.1:8081`:
   omaha stop --to 127.0.0.1:8081 --timeout 600";
 
 pub(crate) fn stop_command<'a>(alloc: Global) -> Making<'a>
-    ensures { IsMade stop_app result }
+    ensures { IsMade stop_app result.made }
 {
     let command = titled(alloc, "stop", STOP, AFTER_STOP);
     let entries = [

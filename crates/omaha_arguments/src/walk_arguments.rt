@@ -67,22 +67,23 @@ Exit status: 0 if there is no update any more, 1 if the walk failed, 2 if the ar
 Example, against `omaha serve --profile mini.toml --packages packages --listen 127.0.0.1:8080`:
   omaha walk --to 127.0.0.1:8080 --app mini --version ''";
 
+const ENTRIES: [Entry<'static>; 9] = [
+    Entry::WantedOption("to", "ADDR", TO),
+    Entry::WantedOption("app", "A", APP),
+    Entry::WantedOption("version", "V", INSTALLED),
+    Entry::PlainOption("fp", "FP", FP),
+    Entry::PlainOption("cohort", "C", COHORT),
+    Entry::PlainOption("session", "S", SESSION),
+    Entry::PlainOption("prefix", "P", PREFIX),
+    Entry::Flag("rollback", ROLLBACK),
+    Entry::PlainOption("timeout", "SECONDS", TIMEOUT),
+];
+
 pub(crate) fn walk_command<'a>(alloc: Global) -> Making<'a>
-    ensures { IsMade walk_app result }
+    ensures { IsMade walk_app result.made }
 {
     let command = titled(alloc, "walk", WALK, AFTER_WALK);
-    let entries = [
-        Entry::WantedOption("to", "ADDR", TO),
-        Entry::WantedOption("app", "A", APP),
-        Entry::WantedOption("version", "V", INSTALLED),
-        Entry::PlainOption("fp", "FP", FP),
-        Entry::PlainOption("cohort", "C", COHORT),
-        Entry::PlainOption("session", "S", SESSION),
-        Entry::PlainOption("prefix", "P", PREFIX),
-        Entry::Flag("rollback", ROLLBACK),
-        Entry::PlainOption("timeout", "SECONDS", TIMEOUT),
-    ];
-    with_entries(alloc, command, &entries)
+    with_entries(alloc, command, &ENTRIES)
 }
 
 const INVALID_APP: &str = "--app is an identifier of 1 to 256 bytes";

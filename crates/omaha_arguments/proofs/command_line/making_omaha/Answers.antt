@@ -1,5 +1,5 @@
 use Rattle.std.proofs.Common.{refl}
-use Rattle.omaha_arguments.proofs.command_line.omaha_command.Goals as goal
+use Rattle.omaha_arguments.proofs.command_line.making_omaha.Goals as goal
 
 pub returns : goal.returns
 returns c =

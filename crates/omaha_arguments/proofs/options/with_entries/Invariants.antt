@@ -6,4 +6,4 @@ use Rattle.omaha_arguments.proofs.options.with_entries.Given as goal
 
 abbrev pub invariant-loop-entry : goal.invariant-loop-entry
 invariant-loop-entry l =
-    (app : App) → IsMade app l.fn.command → IsMade (with_entries app (take l.entry-index l.entries)) l.made
+    (app : App) → IsMade app l.fn.command.made → IsMade (with_entries app (take l.entry-index l.entries)) l.made.made
