@@ -4,51 +4,15 @@ use crate::two_steps::walk_in_pieces;
 use crate::walks::client_of;
 use std::alloc::Global;
 use std::process::Abort;
-use update_client::{Client, Fault, Walk};
-use values::ReadError;
 
-// Which device failed, or `none`.
-fn failed_device(walked: Result<Walk, ReadError<Fault>>) -> &'static str {
-    match walked {
-        Ok(_) => "none",
-        Err(ReadError::Fault(Fault::Link)) => "link",
-        Err(ReadError::Fault(Fault::Install)) => "installer",
-        Err(_) => "another fault",
-    }
-}
-
-// Which device failed a walk in reads of two bytes, over devices that each fail at the call after so many, and whether the
-// client was left with its commits alone.
-fn walk_failing(
-    alloc: Global,
-    client: &mut Client,
-    link_calls: u64,
-    installer_calls: u64,
-) -> (&'static str, bool) {
-    let (walked, is_kept) = walk_in_pieces(alloc, client, 2, link_calls, installer_calls);
-    (failed_device(walked), is_kept)
-}
-
-// Which device failed a client, if it was left with its commits alone, and its next walk, over sound devices, led to 2.0.
-fn walk_on(
-    alloc: Global,
-    client: &mut Client,
-    link_calls: u64,
-    installer_calls: u64,
-) -> Option<&'static str> {
-    let (failed, is_kept) = walk_failing(alloc, client, link_calls, installer_calls);
-    let next = walk_failing(alloc, client, u64::MAX, u64::MAX);
-    if is_kept && next == ("none", true) && client.version() == "2.0" {
-        Some(failed)
-    } else {
-        None
-    }
-}
-
-// The same of a new client.
+// What a walk of a new client comes to in reads of two bytes, over devices that each fail at the call after so many, if it is
+// left with its commits alone, and its next walk, over sound devices, leads to 2.0.
 fn walk_twice(alloc: Global, link_calls: u64, installer_calls: u64) -> Option<&'static str> {
     let mut client = client_of(alloc, "0 - -").ok()?;
-    walk_on(alloc, &mut client, link_calls, installer_calls)
+    let (failed, is_kept) = walk_in_pieces(alloc, &mut client, 2, link_calls, installer_calls);
+    let next = walk_in_pieces(alloc, &mut client, 2, u64::MAX, u64::MAX);
+    let is_right = is_kept && next == ("whole", true) && client.version() == "2.0";
+    is_right.then_some(failed)
 }
 
 // Lets each call of a device fail until a walk has no such call, and returns how many there are.
@@ -58,7 +22,7 @@ fn count_failures(rt: &impl Abort, alloc: Global, device: &str) -> u64 {
             "link" => walk_twice(alloc, call, u64::MAX),
             _ => walk_twice(alloc, u64::MAX, call),
         };
-        if failed == Some("none") {
+        if failed == Some("whole") {
             return call;
         }
         assert!(rt; failed == Some(device), "{device}, after {call} calls");

@@ -20,8 +20,6 @@ mod out_of_memory_tests;
 #[cfg(test)]
 mod replies;
 #[cfg(test)]
-mod rows;
-#[cfg(test)]
 mod shelf;
 #[cfg(test)]
 mod two_steps;

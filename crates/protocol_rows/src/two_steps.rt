@@ -8,83 +8,76 @@ use std::alloc::Global;
 use update_client::{Client, Fault, Walk};
 use values::ReadError;
 
-// The replies to a client at a version, and the bodies of its downloads.
-fn replies_at(version: &str) -> (&'static str, &'static str) {
-    match version {
-        "0" => (
-            "1 offer s:7 1.0 a- abc;1 offer s:7 2.0 b- abcd*14 abcdefghijk;1 check noupdate",
-            "abc abcdefghijk",
-        ),
-        "1.0" => (
-            "1 offer s:7 2.0 b- abcd*14 abcdefghijk;1 check noupdate",
-            "abcdefghijk",
-        ),
-        _ => ("1 check noupdate", ""),
-    }
-}
-
-// The commits that lead from a version to another; ` none` if none do.
-fn commits_between(start: &str, version: &str) -> &'static str {
-    match (start, version) {
-        ("0", "0") | ("1.0", "1.0") | ("2.0", "2.0") => "",
-        ("0", "1.0") => "full 1.0 a-0 3;",
-        ("0", "2.0") => "full 1.0 a-0 3;diff 2.0 b-0 11;",
-        ("1.0", "2.0") => "diff 2.0 b-0 11;",
-        _ => " none",
-    }
-}
-
-// The version that a client is at, of those on its way.
-fn version_of(client: &Client) -> &'static str {
-    match client.version() {
-        "0" => "0",
-        "1.0" => "1.0",
-        "2.0" => "2.0",
-        _ => "another",
-    }
-}
-
-// What a walk of a client comes to over a link and an installer, and whether the commits are those that lead to its version
-// and nothing is staged.
-fn walk_from(
-    alloc: Global,
-    client: &mut Client,
-    link: &mut Played<'_>,
-    shelf: &mut Shelf,
-) -> (Result<Walk, ReadError<Fault>>, bool)
-    requires { shelf.old.staged.items ≡ [] }
-{
-    let mut block = [0; 4096];
-    let start = version_of(client);
-    let walked = client.walk(alloc, link, shelf, &mut block);
-    let commits = commits_between(start, version_of(client));
+// The replies to a client after so many steps, and the bodies of its downloads.
+const REPLIES: [(&str, &str); 3] = [
     (
-        walked,
-        shelf.staged.is_empty() && shelf.log.as_str() == commits,
-    )
+        "1 offer s:7 1.0 a- abc;1 offer s:7 2.0 b- abcd*14 abcdefghijk;1 check noupdate",
+        "abc abcdefghijk",
+    ),
+    (
+        "1 offer s:7 2.0 b- abcd*14 abcdefghijk;1 check noupdate",
+        "abcdefghijk",
+    ),
+    ("1 check noupdate", ""),
+];
+
+// The commits of both steps, and where they begin and end.
+const COMMITS: &str = "full 1.0 a-0 3;diff 2.0 b-0 11;";
+
+const ENDS: [usize; 3] = [0, 15, 31];
+
+// How many steps a client has made.
+fn steps_of(client: &Client) -> usize {
+    match client.version() {
+        "0" => 0,
+        "1.0" => 1,
+        _ => 2,
+    }
 }
 
-// The same with an installer that fails at the call after so many.
+// The commits between two counts of steps.
+fn commits_between(start: usize, end: usize) -> Option<&'static str> {
+    COMMITS.get(*ENDS.get(start)?..*ENDS.get(end)?)
+}
+
+// What a walk came to: `whole`, the device that failed, or another word.
+fn end_of(walked: Result<Walk, ReadError<Fault>>) -> &'static str {
+    match walked {
+        Ok(_) => "whole",
+        Err(ReadError::Fault(Fault::Link)) => "link",
+        Err(ReadError::Fault(Fault::Install)) => "installer",
+        Err(ReadError::Memory) => "memory",
+        Err(_) => "another fault",
+    }
+}
+
+// What a walk of a client comes to over a link and an installer that fails at the call after so many; and whether the
+// commits are those that lead to its version and nothing is staged.
 fn walk_over(
     alloc: Global,
     client: &mut Client,
     link: &mut Played<'_>,
     calls: u64,
-) -> (Result<Walk, ReadError<Fault>>, bool) {
+) -> (&'static str, bool) {
+    let start = steps_of(client);
     let mut shelf = Shelf::new(alloc, calls);
-    walk_from(alloc, client, link, &mut shelf)
+    let walked = client.walk(alloc, link, &mut shelf, &mut [0; 4096]);
+    let commits = commits_between(start, steps_of(client));
+    let is_kept = shelf.staged.is_empty() && commits == Some(shelf.log.as_str());
+    (end_of(walked), is_kept)
 }
 
 /// What a walk of a client comes to in reads of at most `piece` bytes, over a link and an installer that each fail at the
-/// call after so many; and whether the commits are those that lead to its version and nothing is staged.
+/// call after so many: `whole`, the device that failed, or another word; and whether the commits are those that lead to its
+/// version and nothing is staged.
 pub(crate) fn walk_in_pieces(
     alloc: Global,
     client: &mut Client,
     piece: usize,
     link_calls: u64,
     installer_calls: u64,
-) -> (Result<Walk, ReadError<Fault>>, bool) {
-    let (replies, bodies) = replies_at(version_of(client));
+) -> (&'static str, bool) {
+    let (replies, bodies) = REPLIES.get(steps_of(client)).copied().unwrap_or(("", ""));
     let mut link = Played::new(alloc, replies, bodies, piece, link_calls);
     walk_over(alloc, client, &mut link, installer_calls)
 }

@@ -55,24 +55,6 @@ fn push_files(alloc: Global, reply: &mut String, words: &str) -> Result<(), Allo
     push_file(alloc, reply, "diff.bin", diff, "diff")
 }
 
-// The update check of an offer: its version, its fingerprint with the count, a full package and perhaps a
-// differential.
-fn push_offer(
-    alloc: Global,
-    reply: &mut String,
-    words: &str,
-    count: u64,
-) -> Result<(), AllocError> {
-    let (version, words) = cut(words, ' ');
-    let (fp, words) = cut(words, ' ');
-    write!(
-        reply,
-        r#"{{"status":"ok","urls":{{"url":[{{"codebase":"u/"}},{{"codebasediff":"d/"}}]}},"manifest":{{"version":"{version}","packages":{{"package":[{{"fp":"{fp}{count}","#
-    )?;
-    push_files(alloc, reply, words)?;
-    reply.push_str("}]}}}")
-}
-
 // What comes before the update check of a reply for `DEMO` with a cohort text.
 fn push_front(reply: &mut String, cohort: &str) -> Result<(), AllocError> {
     write!(
@@ -81,7 +63,8 @@ fn push_front(reply: &mut String, cohort: &str) -> Result<(), AllocError> {
     )
 }
 
-// The reply with an offer `COHORT VERSION FP FULL [DIFF]`.
+// The reply with an offer `COHORT VERSION FP FULL [DIFF]`: its version, its fingerprint with the count, a full package and
+// perhaps a differential.
 fn push_offered(
     alloc: Global,
     reply: &mut String,
@@ -89,10 +72,15 @@ fn push_offered(
     count: u64,
 ) -> Result<(), AllocError> {
     let (cohort, words) = cut(words, ' ');
-    let cohort = if cohort == "-" { "" } else { cohort };
-    push_front(reply, cohort)?;
-    push_offer(alloc, reply, words, count)?;
-    reply.push_str("}]}}")
+    let (version, words) = cut(words, ' ');
+    let (fp, words) = cut(words, ' ');
+    push_front(reply, if cohort == "-" { "" } else { cohort })?;
+    write!(
+        reply,
+        r#"{{"status":"ok","urls":{{"url":[{{"codebase":"u/"}},{{"codebasediff":"d/"}}]}},"manifest":{{"version":"{version}","packages":{{"package":[{{"fp":"{fp}{count}","#
+    )?;
+    push_files(alloc, reply, words)?;
+    reply.push_str("}]}}}}]}}")
 }
 
 // The reply with such a status of the update check.
@@ -109,12 +97,6 @@ fn push_reply(alloc: Global, reply: &mut String, line: &str, count: u64) -> Resu
         "check" => push_status(reply, words),
         _ => reply.push_str(line),
     }
-}
-
-fn reply_of(alloc: Global, line: &str, count: u64) -> Result<String, AllocError> {
-    let mut reply = String::new(alloc);
-    push_reply(alloc, &mut reply, line, count)?;
-    Ok(reply)
 }
 
 impl<'a> Replies<'a> {
@@ -137,6 +119,8 @@ impl<'a> Replies<'a> {
             self.times = times.parse().unwrap_or(1).max(1);
         }
         self.times -= 1;
-        reply_of(alloc, self.line, self.times)
+        let mut reply = String::new(alloc);
+        push_reply(alloc, &mut reply, self.line, self.times)?;
+        Ok(reply)
     }
 }
