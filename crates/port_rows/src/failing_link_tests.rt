@@ -1,6 +1,6 @@
 // Posts and downloads whose source or sink fails at one call, whichever it is.
 
-use crate::links::{ask, request_of};
+use crate::links::{ask, read_reply, request_of};
 use http_memory::{Input, Output};
 use std::alloc::Global;
 
@@ -10,8 +10,24 @@ const REPLY: &[u8] = b"HTTP/1.1 200 OK\r\nContent-Length: 5\r\n\r\nhello";
 const CHUNKED: &[u8] = b"HTTP/1.1 200 OK\r\nTransfer-Encoding: chunked\r\n\r\n\
     5;a=b\r\nhello\r\n7\r\n, world\r\n0\r\nA: b\r\n\r\n";
 
-// Lets each read fail until none does, and returns how many there are; `None` if one comes to anything else. A read gives
+// What a post or a download comes to one of whose reads fails after so many, and whether its request was sent. A read gives
 // so many bytes.
+fn fail_read(
+    alloc: Global,
+    kind: &str,
+    reply: &[u8],
+    body: &[u8],
+    piece: usize,
+    good: usize,
+) -> (&'static str, bool) {
+    let mut source = Input::new(reply, piece);
+    source.fails_after = Some(good);
+    let mut sink = Output::new(alloc, 1000);
+    let came = ask(alloc, kind, &mut source, &mut sink, body);
+    (came, sink.bytes.as_slice() == request_of(kind))
+}
+
+// Lets each read fail until none does, and returns how many there are; `None` if one comes to anything else.
 fn count_reads(
     alloc: Global,
     kind: &str,
@@ -20,18 +36,10 @@ fn count_reads(
     piece: usize,
 ) -> Option<usize> {
     for good in 0..1000 {
-        let mut source = Input::new(reply, piece);
-        source.fails_after = Some(good);
-        let mut sink = Output::new(alloc, 1000);
-        let came = ask(alloc, kind, &mut source, &mut sink, body);
-        if sink.bytes.as_slice() != request_of(kind) {
-            return None;
-        }
-        if came == "whole" {
-            return Some(good);
-        }
-        if came != "read failed" {
-            return None;
+        match fail_read(alloc, kind, reply, body, piece, good) {
+            ("whole", true) => return Some(good),
+            ("read failed", true) => {}
+            _ => return None,
         }
     }
     None
@@ -60,49 +68,43 @@ fn a_link_reports_each_failed_read(rt: HostRuntime) {
     }
 }
 
-// What a post comes to whose reply comes so many bytes a read.
-fn read_reply(alloc: Global, reply: &[u8], piece: usize) -> &'static str {
-    let mut source = Input::new(reply, piece);
-    let mut sink = Output::new(alloc, 1000);
-    ask(alloc, "post", &mut source, &mut sink, b"hello, world")
-}
-
 // rule: Chunked body that is rejected
 // rule: Reply that a link reads
 #[test]
 fn a_chunked_reply_that_is_cut_is_ended(rt: HostRuntime) {
     for count in 0..CHUNKED.len() {
         for piece in [1, 1000] {
-            let came = read_reply(rt.alloc(), &CHUNKED[..count], piece);
+            let came = read_reply(rt.alloc(), "post", &CHUNKED[..count], piece, b"");
             assert!(rt; came == "ended", "{count} bytes");
         }
     }
 }
 
-// What comes of a failed write, and how much of the reply is left: the reply to a post is read all the same.
-fn after_failed_write(kind: &str) -> (&'static str, usize) {
-    match kind {
-        "post" => ("whole", 0),
-        _ => ("write failed", REPLY.len()),
-    }
+// What a post or a download comes to one of whose writes fails after so many, how much of the reply is left, and whether
+// the write failed after a first part of the request. A write takes so many bytes.
+fn fail_write(
+    alloc: Global,
+    kind: &str,
+    piece: usize,
+    good: usize,
+) -> Option<(&'static str, usize, bool)> {
+    let mut source = Input::new(REPLY, 1000);
+    let mut sink = Output::new(alloc, piece);
+    sink.fails_after = Some(good);
+    let came = ask(alloc, kind, &mut source, &mut sink, b"hello");
+    let is_first = request_of(kind).starts_with(&sink.bytes) && sink.calls == good;
+    is_first.then_some((came, source.left.len(), sink.fails_after.is_none()))
 }
 
-// Lets each write fail until none does, and returns how many there are; `None` if one comes to anything else. A write takes
-// so many bytes.
+// Lets each write fail until none does, and returns how many there are; `None` if one comes to anything else. The reply to
+// a post is read all the same.
 fn count_writes(alloc: Global, kind: &str, piece: usize) -> Option<usize> {
     for good in 0..1000 {
-        let mut source = Input::new(REPLY, 1000);
-        let mut sink = Output::new(alloc, piece);
-        sink.fails_after = Some(good);
-        let came = ask(alloc, kind, &mut source, &mut sink, b"hello");
-        if !request_of(kind).starts_with(&sink.bytes) || sink.calls != good {
-            return None;
-        }
-        if sink.fails_after.is_some() && came == "whole" {
-            return Some(good);
-        }
-        if (came, source.left.len()) != after_failed_write(kind) {
-            return None;
+        match (kind, fail_write(alloc, kind, piece, good)?) {
+            (_, ("whole", _, false)) => return Some(good),
+            ("post", ("whole", 0, true)) => {}
+            ("download", ("write failed", left, true)) if left == REPLY.len() => {}
+            _ => return None,
         }
     }
     None

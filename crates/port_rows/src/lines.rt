@@ -33,11 +33,12 @@ fn push_column(bytes: &mut Vec<u8>, column: &str) -> Result<(), AllocError> {
     Ok(())
 }
 
-/// The bytes of a column; `None` if memory ran out.
-pub(crate) fn expand(alloc: Global, column: &str) -> Option<Vec<u8>> {
+/// The bytes of two columns, which are never freed; `None` if memory ran out.
+pub(crate) fn expand(alloc: Global, first: &str, second: &str) -> Option<&'static [u8]> {
     let mut bytes = Vec::new(alloc);
-    push_column(&mut bytes, column).ok()?;
-    Some(bytes)
+    push_column(&mut bytes, first).ok()?;
+    push_column(&mut bytes, second).ok()?;
+    Some(bytes.leak())
 }
 
 /// The columns of a peer, with a semicolon between two; those that there aren't are empty.

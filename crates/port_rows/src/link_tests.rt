@@ -1,34 +1,19 @@
 // Posts and downloads whose replies come in pieces (RFC 9112, sections 6.1, 6.3 and 7.1).
 
 use crate::lines::expand;
-use crate::links::ask;
-use http_memory::{Input, Output};
+use crate::links::read_reply;
 use std::alloc::Global;
 
 // Whether a row is so if the reply comes so many bytes a read: the reply after this head, and what it comes to.
 fn is_so(alloc: Global, kind: &str, head: &str, row: &str, piece: usize) -> Option<bool> {
     let (reply, wanted) = row.rsplit_once('|')?;
-    let mut bytes = expand(alloc, head)?;
-    bytes.extend_from_slice(&expand(alloc, reply)?).ok()?;
+    let reply = expand(alloc, head, reply)?;
     let (body, wanted) = match wanted.strip_prefix('=') {
         Some(body) => (body, "whole"),
         None => ("", wanted),
     };
-    comes_to(alloc, kind, &bytes, piece, &expand(alloc, body)?, wanted)
-}
-
-// Whether a reply that comes so many bytes a read is read so.
-fn comes_to(
-    alloc: Global,
-    kind: &str,
-    reply: &[u8],
-    piece: usize,
-    body: &[u8],
-    wanted: &str,
-) -> Option<bool> {
-    let mut source = Input::new(reply, piece);
-    let mut sink = Output::new(alloc, 1000);
-    Some(ask(alloc, kind, &mut source, &mut sink, body) == wanted)
+    let body = expand(alloc, body, "")?;
+    Some(read_reply(alloc, kind, reply, piece, body) == wanted)
 }
 
 // The first of rows that is wrong, in pieces of each of these lengths; empty if there is none.

@@ -104,3 +104,16 @@ pub(crate) fn ask(
         _ => download(alloc, source, sink, body),
     }
 }
+
+/// The same of one whose reply comes so many bytes a read.
+pub(crate) fn read_reply(
+    alloc: Global,
+    kind: &str,
+    reply: &[u8],
+    piece: usize,
+    body: &[u8],
+) -> &'static str {
+    let mut source = Input::new(reply, piece);
+    let mut sink = Output::new(alloc, 1000);
+    ask(alloc, kind, &mut source, &mut sink, body)
+}

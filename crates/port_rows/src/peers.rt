@@ -55,7 +55,7 @@ fn manner_of(words: &str, piece: usize) -> Manner {
 
 // Makes the peer that has this input.
 fn make_peer(alloc: Global, manner: Manner, input: &str) -> Option<Peer> {
-    let input = expand(alloc, input)?;
+    let input = Vec::from_slice(alloc, expand(alloc, input, "")?).ok()?;
     let mut peer = Peer::new(alloc, input, manner.piece, manner.room).ok()?;
     peer.after_input = manner.after_input;
     peer.when_full = manner.when_full;
@@ -63,22 +63,22 @@ fn make_peer(alloc: Global, manner: Manner, input: &str) -> Option<Peer> {
     Some(peer)
 }
 
-// Puts a peer after those of its slot.
-fn add_peer(alloc: Global, seats: &mut [Seat], text: &str, piece: usize) -> Option<()> {
-    let [words, input, _, _] = columns(text);
-    let manner = manner_of(words, piece);
-    let peer = make_peer(alloc, manner, input)?;
-    seats.get_mut(manner.slot)?.peers.push(peer).ok()
+// Puts the peers of a row after those of their slots.
+fn add_peers(alloc: Global, seats: &mut [Seat], row: &str, piece: usize) -> Option<()> {
+    for text in row.split('|') {
+        let [words, input, _, _] = columns(text);
+        let manner = manner_of(words, piece);
+        let seat = seats.get_mut(manner.slot)?;
+        seat.peers.push(make_peer(alloc, manner, input)?).ok()?;
+    }
+    Some(())
 }
 
-// The slots of a row, of which there are two.
-fn seats_of(alloc: Global, row: &str, piece: usize) -> Option<Vec<Seat>> {
+// Two slots without peers.
+fn free_seats(alloc: Global) -> Option<Vec<Seat>> {
     let mut seats = Vec::new(alloc);
     for _ in 0..2 {
         seats.push(Seat::new(Vec::new(alloc))).ok()?;
-    }
-    for text in row.split('|') {
-        add_peer(alloc, &mut seats, text, piece)?;
     }
     Some(seats)
 }
@@ -100,8 +100,9 @@ pub(crate) fn script_of(alloc: Global, row: &str, piece: usize, order: u32) -> O
     ensures fresh { IfSome result (λ script. (k : ℕ) → slots_of script.seats.items k ≡ unused) }
     ensures none { IfSome result (λ script. accepted_in script.seats.items ≡ 0) }
 {
-    let seats = seats_of(alloc, row, piece)?;
     let turns = turns_of(alloc, order)?;
+    let mut seats = free_seats(alloc)?;
+    add_peers(alloc, &mut seats, row, piece)?;
     let mut script = Script::new(seats, turns)?;
     script.step = 1;
     Some(script)
@@ -125,8 +126,8 @@ fn end_of(peer: &Peer) -> &'static str {
 // Whether a peer got what its columns say, and its connection ended so.
 fn is_as_said(alloc: Global, peer: &Peer, text: &str) -> Option<bool> {
     let [_, _, how, got] = columns(text);
-    let got = expand(alloc, got)?;
-    Some(end_of(peer) == how && peer.got.as_slice() == got.as_slice())
+    let got = expand(alloc, got, "")?;
+    Some(end_of(peer) == how && peer.got.as_slice() == got)
 }
 
 // Whether the next peer of a row is as it says; `counts` has how many peers of each slot came before.

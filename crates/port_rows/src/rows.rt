@@ -1,6 +1,6 @@
 // Rows of one string, and the first that is wrong.
 
-ghost use Rattle.std.specs.Prelude.{◌≡◌, ℕ, vec_len};
+ghost use Rattle.std.specs.Prelude.{◌≡◌, ℕ};
 ghost use Rattle.http_ports.specs.Traffic.{unused};
 ghost use Rattle.http_memory.specs.Seats.{accepted_in, slots_of};
 
@@ -11,12 +11,14 @@ use http_ports::{Port, run};
 use http_sessions::{Buffers, Talk, Talks};
 use std::sync::Wait;
 
-// Serves the peers of a script; for how many memory ran out.
-fn serve<R: Wait + AllocGlobal>(rt: &R, room: &mut Buffers, script: &mut Script) -> u64
+// Serves the peers of a script that has two slots; for how many memory ran out.
+fn serve<R: Wait + AllocGlobal>(rt: &R, room: &mut Buffers, script: &mut Script) -> Option<u64>
     requires fresh { (k : ℕ) → slots_of script.old.seats.items k ≡ unused }
     requires none { accepted_in script.old.seats.items ≡ 0 }
-    requires two { vec_len script.old.seats ≡ 2 }
 {
+    if script.terms.capacity != 2 {
+        return None;
+    }
     let alloc = rt.alloc();
     let files = FILES;
     let talks = Talks {
@@ -25,7 +27,7 @@ fn serve<R: Wait + AllocGlobal>(rt: &R, room: &mut Buffers, script: &mut Script)
     };
     let mut desk = Echo { alloc };
     let mut conns: [Option<Talk>; 2] = [None, None];
-    run(
+    Some(run(
         rt,
         script,
         &talks,
@@ -33,7 +35,7 @@ fn serve<R: Wait + AllocGlobal>(rt: &R, room: &mut Buffers, script: &mut Script)
         &mut [0; 4096],
         &mut conns,
         &mut desk,
-    )
+    ))
 }
 
 // Whether what a row says is so.
@@ -44,15 +46,10 @@ fn is_so<R: Wait + AllocGlobal>(
     order: u32,
     row: &str,
 ) -> Option<bool> {
-    let alloc = rt.alloc();
-    let mut script = script_of(alloc, row, piece, order)?;
-    if script.terms.capacity != 2 {
-        return None;
-    }
-    if serve(rt, room, &mut script) != 0 {
-        return Some(false);
-    }
-    are_as_said(&script, alloc, row)
+    let mut script = script_of(rt.alloc(), row, piece, order)?;
+    let lost = serve(rt, room, &mut script);
+    let is_said = are_as_said(&script, rt.alloc(), row) == Some(true);
+    Some(lost == Some(0) && is_said)
 }
 
 /// The first of rows that is wrong, over pieces of this length and turns in this order; empty if there is none.
