@@ -174,6 +174,16 @@ const TABLES: &[(&str, &str, &str)] = &[
     (ADDRESSES, ADDRESS_FRONT, ADDRESS_BACK),
 ];
 
+// The first of rows that isn't so between front and back; empty if there is none.
+fn wrong_row(alloc: Global, front: &str, rows: &'static str, back: &str) -> &'static str {
+    for row in rows.lines() {
+        if is_so(alloc, front, row, back) != Some(true) {
+            return row;
+        }
+    }
+    ""
+}
+
 // rule: Address in a reply
 // rule: Differential in a reply
 // rule: Faults of a reply
@@ -182,8 +192,7 @@ const TABLES: &[(&str, &str, &str)] = &[
 #[test]
 fn reads_replies_or_reports_their_first_fault(rt: HostRuntime) {
     for (rows, front, back) in TABLES {
-        for row in rows.lines() {
-            assert!(rt; is_so(rt.alloc(), front, row, back) == Some(true), "{row}");
-        }
+        let wrong = wrong_row(rt.alloc(), front, rows, back);
+        assert!(rt; wrong.is_empty(), "{wrong}");
     }
 }
