@@ -1,10 +1,10 @@
 // Editions that the tests begin with.
 
 use editions::Edition;
-use fixtures::edition_after;
+use fixtures::edition_of;
 use std::alloc::Global;
 
-/// App `mini` with releases 1.0, 2.0 and 3.0, and no target.
+/// App `mini` with the releases 1.0, 2.0 and 3.0, and the target 2.0.
 pub(crate) const MINI: &str = r#"schema = 1
 
 [[mirror]]
@@ -15,6 +15,10 @@ budget = 1000000
 [[app]]
 id = "mini"
 default = "stable"
+
+[[app.cohort]]
+name = "stable"
+target = "2.0"
 
 [[app.release]]
 version = "1.0"
@@ -35,10 +39,7 @@ size = 7
 sha256 = "3333333333333333333333333333333333333333333333333333333333333333"
 "#;
 
-/// The edit that sets the target of `mini`'s only cohort to 2.0.
-pub(crate) const TARGET: &str = "set_target mini stable 2.0 -";
-
-/// The edition whose second batch sets the target of `mini` to 2.0.
+/// The edition of `mini`.
 pub(crate) fn small(alloc: Global) -> Option<&'static Edition> {
-    edition_after(alloc, MINI, TARGET)
+    edition_of(alloc, MINI)
 }

@@ -9,7 +9,7 @@ use crate::plans::print_plan;
 use crate::press_tests::open_one;
 use cohorts::CohortText;
 use editions::{Edition, NextError};
-use fixtures::{CHAINED, edition_of, next_of, open_batches, open_profile, publish_edits};
+use fixtures::{CHAINED, edition_of, next_of, open_empty, open_profile, publish_edits};
 use kept_records::Unkept;
 use publisher::{Press, PublishError, View};
 use std::alloc::Global;
@@ -73,7 +73,7 @@ fn open_without_memory(rt: HostRuntime) {
 }
 
 fn opens_edition<R: Wait>(rt: &R, alloc: Global) -> Option<bool> {
-    are_opened(rt, open_batches(rt, alloc, 1, 8))
+    are_opened(rt, open_empty(rt, alloc, 8))
 }
 
 // rule: Opening

@@ -1,4 +1,3 @@
-use crate::batches::TARGET;
 use editions::NextError;
 use fixtures::{empty_edition, next_of};
 use std::alloc::Global;
@@ -10,9 +9,9 @@ fn is_printed(alloc: Global, error: &NextError, wanted: &str) -> bool {
     }
 }
 
-// Whether the first batch is rejected since it sets the target of an unknown app.
+// Whether the first batch is rejected since it withdraws a release of an unknown app.
 fn rejects(alloc: Global) -> Option<bool> {
-    match next_of(alloc, empty_edition(alloc)?, TARGET) {
+    match next_of(alloc, empty_edition(alloc)?, "set_withdrawn mini 2.0 on") {
         Ok(_next) => Some(false),
         Err(error) => Some(is_printed(alloc, &error, "edit 0: C1 UnknownApp")),
     }
