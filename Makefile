@@ -2,7 +2,8 @@
 #                    program built without a proof, or by the one of make install
 # make test          the gate: the rules' marks, the words to avoid, the functions and clauses that the claims name, the
 #                    list of crates, the pictures, every proof from nothing, mutants, tests and the program, and then
-#                    the rows of tests/rows, the cases of tests/corpus and a few idle connections with the built program
+#                    the rows of tests/rows, the cases of tests/corpus, replies on random catalogues and a few idle
+#                    connections with the built program
 # make mutants CRATE..  tries the mutants that the gate doesn't, of these crates or of all; the prover
 #                    must reject each
 # make commands      runs the commands on the profiles of examples/, and verifies each track's
@@ -49,6 +50,7 @@ test:
 	packaging/build.py --gate
 	tests/rows.py
 	tests/corpus.py
+	tests/chains.py
 	tests/idle.py --only few --size 8
 
 mutants:

@@ -5,7 +5,7 @@ A rule has one plain name, which is a heading in `docs/definitions/`. Its marks 
 - `-- rule: NAME` above the definition that states it, in a file of `specs/`;
 - `// rule: NAME` above each function that keeps it, in a file of `src/`;
 - `// rule: NAME` above a test that shows it, or above the test's helper, in a crate whose name ends in `_rows`;
-- `# rule: NAME` above a row that shows it, in a file of `tests/rows/`;
+- `# rule: NAME` above a row that shows it, in a file of `tests/rows/`, or above a function of a script of `tests/`;
 - `# rule: NAME` in each mutant that breaks it, in the crate's `must-fail/` or in `mutants/CRATE/`.
 
 A mark of `src/`, `specs/` or `tests/rows/` is above the item's comment and its attributes.
@@ -28,7 +28,8 @@ import sys
 TOP = os.path.dirname(os.path.dirname(os.path.abspath(__file__)))
 CRATES = os.path.join(TOP, "crates")
 MUTANTS = os.path.join(TOP, "mutants")
-ROWS = os.path.join(TOP, "tests", "rows")
+TESTS = os.path.join(TOP, "tests")
+ROWS = os.path.join(TESTS, "rows")
 HEADINGS = os.path.join(TOP, "docs", "definitions")
 INDEX = os.path.join(HEADINGS, "README.md")
 
@@ -83,6 +84,7 @@ NO_TEST = {
 }
 
 ROW = re.compile(r"^== (.+)$")
+SCRIPTED = re.compile(r"^def (\w+)\(")
 MARK = re.compile(r"^\s*(?:--|//|#) rule: (.+?)\s*$")
 COMMENT = re.compile(r"^\s*(?:--|//|#)")
 DEFINITION = re.compile(r"^\s*(?:abbrev pub|unfoldable pub|pub record|pub data|abbrev|record|pub)\s+([\w◌-]+)")
@@ -178,6 +180,9 @@ def read_rules():
         for rule, name, line in marks(path, ROW):
             file = os.path.relpath(path, TOP).removesuffix(".rows")
             rules.setdefault(rule, Rule()).tests.append(Place(file, name, path, line))
+    for path in sorted(os.path.join(TESTS, name) for name in os.listdir(TESTS) if name.endswith(".py")):
+        for rule, name, line in marks(path, SCRIPTED):
+            rules.setdefault(rule, Rule()).tests.append(Place(os.path.relpath(path, TOP), name, path, line))
     return rules
 
 
