@@ -98,13 +98,22 @@ def reply_of(profile, request):
     return reply_model.reply_bytes(replies, 0, 0)
 
 
+# rule: Audience
 # rule: Chosen payload
+# rule: Floor
 # rule: Graph of a track
 # rule: Least sum
+# rule: Offered release
+# rule: Payloads from a release
+# rule: Payloads into a release
 # rule: Permitted on a track
 # rule: Quote
+# rule: Rollback of a key
+# rule: Stone
+# rule: Table of a key
 # rule: Tables of a plan
 # rule: Target of a track
+# rule: Window of a release
 def compare(program, folder, source):
     """Compares the replies of a random catalogue, and returns how many offers they have."""
     profile, request = profile_of(source), request_of(source)

@@ -1,7 +1,14 @@
-// The certificate of a track, and what it is to other ones.
+// The certificate of a track, read and written again.
 
-use crate::asks::wrong_row;
-use fixtures::keep;
+ghost use Rattle.std.specs.Prelude.{◌≡◌, Some};
+ghost use Rattle.payload_graph.specs.Net.{net_among};
+ghost use Rattle.cohorts.specs.declared.pin.Pin.TheVariants as pin;
+
+use catalogue::Catalogue;
+use cohorts::Pin;
+use fixtures::{DEMO, catalogue_of_script, graph_of, keep, key_of};
+use payload_graph::Graph;
+use price_cert::{read_key, read_prices, write_prices};
 use std::alloc::Global;
 
 // The certificate of the target of `stable`.
@@ -18,24 +25,32 @@ rows 4
 4.0 0 end
 ";
 
-/// The certificate of the target of `stable`, in which `held>target` has the second word in place of the first.
-pub(crate) fn certificate_of(alloc: Global, change: &str) -> Option<&'static String> {
-    let (old, new) = change.split_once('>').unwrap_or(("~", ""));
-    keep(alloc, STABLE.replace(alloc, old, new).ok()?)
+// Whether the prices of the certificate are written as it.
+fn rewrites(alloc: Global, catalogue: &Catalogue, graph: &Graph) -> Option<bool>
+    requires graph { net_among catalogue.now graph.now.key ≡ Some graph.now }
+    requires pin { graph.now.key.pin ≡ pin.Any }
+{
+    let read = read_prices(alloc, catalogue, graph, STABLE.as_bytes()).ok()?;
+    let prices = keep(alloc, read)?;
+    let written = write_prices(alloc, catalogue, prices).ok()?;
+    Some(written.as_slice() == STABLE.as_bytes())
 }
 
-// The track to which it is read, and the change.
-const HEADINGS: &str = "stable target no||reads||certified
-stable held no||reads||P2 4
-beta target yes||reads||P2 3
-stable target no||reads|stable>beta|P2 3
-stable target no||reads|lane target>lane held|P2 4
-stable target no||reads|no>yes|P2 5
-stable target no||reads|target 4.0>target 3.0|P2 6";
+/// Whether the certificate is read to its track, and its prices are written as it; `None` if memory ran out.
+pub(crate) fn is_written_as_read(alloc: Global) -> Option<bool> {
+    let catalogue = catalogue_of_script(alloc, DEMO, "")?;
+    let graph = graph_of(alloc, catalogue, &key_of("stable target no"))?;
+    match graph.key().pin {
+        Pin::Any => rewrites(alloc, catalogue, graph),
+        _ => Some(false),
+    }
+}
 
-// rule: Flaw of a heading
-#[test]
-fn is_certified_for_one_track(rt: HostRuntime) {
-    let wrong = wrong_row(rt.alloc(), HEADINGS);
-    assert!(rt; wrong.is_empty(), "{wrong}");
+/// Whether the certificate names its track; `None` if memory ran out.
+pub(crate) fn names_its_track(alloc: Global) -> Option<bool> {
+    let catalogue = catalogue_of_script(alloc, DEMO, "")?;
+    match read_key(catalogue, STABLE.as_bytes()) {
+        Ok(key) => Some(key == key_of("stable target no")),
+        Err(_) => Some(false),
+    }
 }

@@ -1,15 +1,11 @@
-//! Worked rows of catalogues: versions, and what is found by its name; what is permitted on the tracks of small
-//! catalogues, their graphs, first payloads and tables of prices, a certificate read to other tracks, and the files of
-//! packages; and reading, writing and applying without memory.
+//! Worked rows of catalogues: versions, what is found by its name, what is permitted from a client's place, and the files
+//! of packages; and reading, writing, applying and solving without memory.
 //!
-//! It has tests alone, so that the libraries below are proved once. Catalogues are made of scripts, and payloads are
-//! words. What profiles and scripts are read as, what they are rejected for and how a catalogue is written is in rows of
-//! the program.
+//! It has tests alone, so that the libraries below are proved once. What profiles and scripts are read as, what they are
+//! rejected for, how a catalogue is written, tables of prices and their certificates are in rows of the program.
 
 #![tactic(auto)]
 
-#[cfg(test)]
-mod asks;
 #[cfg(test)]
 mod certificates;
 #[cfg(test)]
@@ -21,22 +17,14 @@ mod finders;
 #[cfg(test)]
 mod findings;
 #[cfg(test)]
-mod graphs;
-#[cfg(test)]
 mod limits;
 #[cfg(test)]
-mod offers;
-#[cfg(test)]
 mod out_of_memory_tests;
-#[cfg(test)]
-mod outcomes;
 #[cfg(test)]
 mod places;
 #[cfg(test)]
 mod profile_out_of_memory_tests;
 #[cfg(test)]
 mod shelf;
-#[cfg(test)]
-mod tables;
 #[cfg(test)]
 mod version_tests;

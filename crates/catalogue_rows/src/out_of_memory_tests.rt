@@ -2,7 +2,7 @@
 //
 // In the gate no allocation fails. `make allocations` lets each one of a test fail in turn, so of two tries one fails at most.
 
-use crate::asks::words_of;
+use crate::certificates::{is_written_as_read, names_its_track};
 use fixtures::{DEMO, catalogue_of_script, keep, key_of};
 use payload_graph::Graph;
 use solver::solve;
@@ -33,33 +33,17 @@ fn graph_of_track_solve_and_certified_copy_without_memory(rt: HostRuntime) {
     assert!(rt; are_right(solves(rt.alloc()), solves(rt.alloc())));
 }
 
-// Whether a certificate is what it should be to its track, for which ` no track` is a lack of memory.
-fn is_said(alloc: Global, asked: &str, wanted: &str) -> Option<bool> {
-    let catalogue = catalogue_of_script(alloc, DEMO, "")?;
-    let words = words_of(alloc, catalogue, "stable target no", asked, "")?;
-    match words.as_str() {
-        " no track" => None,
-        words => Some(words == wanted),
-    }
-}
-
 // rule: Reading of a certificate
-#[test]
-fn read_prices_without_memory(rt: HostRuntime) {
-    let first = is_said(rt.alloc(), "reads", "certified");
-    assert!(rt; are_right(first, is_said(rt.alloc(), "reads", "certified")));
-}
-
 // rule: Bytes of a certificate
 #[test]
-fn write_prices_without_memory(rt: HostRuntime) {
-    let first = is_said(rt.alloc(), "rewrites", "the same");
-    assert!(rt; are_right(first, is_said(rt.alloc(), "rewrites", "the same")));
+fn read_prices_and_write_prices_without_memory(rt: HostRuntime) {
+    let first = is_written_as_read(rt.alloc());
+    assert!(rt; are_right(first, is_written_as_read(rt.alloc())));
 }
 
 // rule: Key of a certificate
 #[test]
 fn read_key_without_memory(rt: HostRuntime) {
-    let first = is_said(rt.alloc(), "names", "0 0 target no");
-    assert!(rt; are_right(first, is_said(rt.alloc(), "names", "0 0 target no")));
+    let first = names_its_track(rt.alloc());
+    assert!(rt; are_right(first, names_its_track(rt.alloc())));
 }
