@@ -8,6 +8,7 @@ ghost use Rattle.kept_records.specs.declared.record.Kind.TheVariants.{Profile};
 ghost use Rattle.kept_records.specs.Keeping.{Appends, Compacts, HasRoom, Learns, Numbers, record_of};
 ghost use Rattle.sqlite.specs.Held.{state};
 ghost use Rattle.sqlite.specs.State.{HasCleanDisk};
+ghost use Rattle.history.specs.Changes.{IsNumbered, Makes};
 ghost use Rattle.history.specs.Holdings.{LeavesEither};
 ghost use Rattle.history.specs.Logs.{IsClean, KeepsKnown, Reports};
 
@@ -21,7 +22,32 @@ use sqlite::Alter;
 use std::alloc::Global;
 use streams::Trace;
 
+/// A call that changes the records.
+#[derive(Drop)]
+pub(crate) enum Change {
+    /// Appends a record of this kind.
+    Append(Kind),
+    /// Replaces all records by a profile with this number.
+    Compact(u64),
+}
+
 impl<S: Alter> History<S> {
+    /// Makes a change.
+    pub(crate) fn change(
+        &mut self,
+        alloc: Global,
+        change: Change,
+        bytes: &[u8],
+    ) -> Result<(), AppendFault>
+        requires { IsNumbered change }
+        ensures { Makes change bytes.now result self.old.first self.old.kept self.new.first self.new.kept }
+    {
+        match change {
+            Change::Append(kind) => self.append(alloc, kind, bytes),
+            Change::Compact(number) => self.compact(alloc, number, bytes),
+        }
+    }
+
     /// Whether its calls still reach the disk: no failure may have closed the database.
     pub fn is_live(&self) -> bool
         ensures live { result ≡ self.now.is_live }

@@ -1,9 +1,13 @@
-// The records of a database, and what is known of them.
+// The records of a database, what is known of them, and the end of a history.
 
-ghost use Rattle.std.specs.Prelude.{◌≡◌};
+ghost use Rattle.std.specs.Prelude.{◌≡◌, IfOk, IsTrue};
+ghost use Rattle.history.specs.Openings.{IsClosed};
 
+use crate::causes::cause_of;
 use crate::marks::Mark;
-use sqlite::{Alter, Connection};
+use kept_records::Cause;
+use sqlite::{Alter, Connection, FileStore, Files};
+use sqlite_disk::Disk;
 use std::marker::Model;
 use streams::Trace;
 
@@ -63,5 +67,34 @@ impl<S: Alter + Drop> History<S> {
             marks: _,
         } = self;
         conn
+    }
+}
+
+impl<D: Disk + Drop> History<FileStore<D>> {
+    // rule: Closed history
+    /// Copies the log into the database file, and gives both back.
+    ///
+    /// If that fails the files are closed as they are; the next open takes the two together.
+    pub fn close(self) -> Result<Files<D>, Cause>
+        ensures kept { IfOk result (IsClosed self) }
+        ensures usable { IfOk result (λ files. IsTrue (D.Disk.is_usable files.log) × IsTrue (D.Disk.is_usable files.db)) }
+    {
+        // By its fields, since a call at the type of the store has the code of that proved again.
+        let History {
+            conn,
+            first: _,
+            len: _,
+            size: _,
+            limit: _,
+            is_live: _,
+            marks: _,
+        } = self;
+        match conn.close_files() {
+            Ok(files) => Ok(files),
+            Err((error, store)) => {
+                drop(store.close());
+                Err(cause_of(error))
+            }
+        }
     }
 }

@@ -13,7 +13,6 @@
 
 mod appending;
 mod causes;
-mod closing;
 mod history;
 pub mod laws;
 mod marks;

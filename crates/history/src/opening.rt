@@ -1,6 +1,6 @@
 // The making and the opening of a history.
 
-ghost use Rattle.std.specs.Prelude.{◌≡◌, ◌≢◌, ◌≤◌, ◌^◌, ◌⊎◌, [], false, true, IfErr, IfOk, length, IsTrue};
+ghost use Rattle.std.specs.Prelude.{◌≡◌, ◌≢◌, ◌≤◌, ◌^◌, ◌⊎◌, [], false, true, IfErr, IfOk, Ok, length, IsTrue};
 ghost use Rattle.kept_records.specs.declared.fault.OpenFault.TheVariants.{Foreign};
 ghost use Rattle.sqlite.specs.Held.{state};
 ghost use Rattle.sqlite.specs.State.{HasCleanDisk, Opens};
@@ -15,7 +15,7 @@ use crate::reading::{first_of, read_rows};
 use crate::schema::{is_empty, is_ours};
 use crate::statements::{create_table, list};
 use kept_records::{Cause, MAX_RECORDS, OpenFault, Record};
-use sqlite::{Alter, Connection, Row};
+use sqlite::{Alter, Connection, Error, Row};
 use std::alloc::Global;
 use streams::Trace;
 
@@ -147,5 +147,25 @@ impl<S: Alter> History<S> {
             Ok(history) => Ok((history, Vec::new(alloc))),
             Err((cause, conn)) => Err((OpenFault::Failed(cause), conn)),
         }
+    }
+}
+
+/// Takes or makes the history of a database that was to be opened.
+pub(crate) fn take_opened<S: Alter + Drop, L: Drop>(
+    alloc: Global,
+    opened: Result<Connection<S>, (Error, L)>,
+    limit: u64,
+) -> Result<(History<S>, Vec<Record>), OpenFault>
+    requires { IfOk opened (λ conn. HasCleanDisk (state S.Store conn) → Opens (state S.Store conn)) }
+    ensures known { IfOk result (λ taken. IsKnown taken.0 taken.1.items limit) }
+    ensures taken { IfOk result (λ taken. HasCleanDisk (state S.Store taken.0.conn) → (conn : _) × (opened ≡ Ok conn)
+        × HasCleanDisk (state S.Store conn) × FindsOrMakes S.Store conn taken.0 × KeepsKnown S.Store taken.0) }
+{
+    match opened {
+        Ok(conn) => match History::open_or_create(alloc, conn, limit) {
+            Ok(taken) => Ok(taken),
+            Err((fault, _conn)) => Err(fault),
+        },
+        Err((error, _left)) => Err(open_fault_of(error)),
     }
 }

@@ -4,11 +4,13 @@ ghost use Rattle.std.specs.Prelude.{◌≡◌, IfOk};
 ghost use Rattle.sqlite.specs.Files.{file_state};
 ghost use Rattle.sqlite.specs.State.{HasCleanDisk};
 ghost use Rattle.sqlite.specs.WalFiles.{image_at};
+ghost use Rattle.history.specs.Changes.{IsNumbered, Makes};
 ghost use Rattle.history.specs.Logs.{IsKnown};
 ghost use Rattle.history.specs.Openings.{IsOpenedAt};
 
-use crate::causes::open_fault_of;
+use crate::appending::Change;
 use crate::history::History;
+use crate::opening::take_opened;
 use kept_records::{AppendFault, Cause, Kind, OpenFault, ReadFault, Record, Records, Stores};
 use sqlite::{Connection, FileFrom, FileStore, Start, Wary};
 use std::alloc::Global;
@@ -29,14 +31,11 @@ pub fn open_at<S: Start>(
     ensures known { IfOk result (λ opened. IsKnown opened.0 opened.1.items limit) }
     ensures opened { IfOk result (λ opened. HasCleanDisk (file_state opened.0.conn) → IsOpenedAt (image_at S.Start) opened.0) }
 {
-    let conn = match Connection::open_from(rt, path, false, start) {
-        Ok(conn) => conn,
-        Err((error, _left)) => return Err(open_fault_of(error)),
-    };
-    match History::open_or_create(rt.alloc(), conn, limit) {
-        Ok(opened) => Ok(opened),
-        Err((fault, _conn)) => Err(fault),
-    }
+    take_opened(
+        rt.alloc(),
+        Connection::open_from(rt, path, false, start),
+        limit,
+    )
 }
 
 /// A history in a file of the system.
@@ -64,6 +63,17 @@ impl Model for FileHistory {
     ghost view = { λ h. record { first = h.history.first; kept = h.history.kept } };
 }
 
+impl FileHistory {
+    // Makes a change. Each function that calls a history over files has the code of its database proved again, so both
+    // changes are made here, and `first`, `next` and `unread` go by the fields.
+    fn change(&mut self, alloc: Global, change: Change, bytes: &[u8]) -> Result<(), AppendFault>
+        requires { IsNumbered change }
+        ensures { Makes change bytes.now result self.old.first self.old.kept self.new.first self.new.kept }
+    {
+        self.history.change(alloc, change, bytes)
+    }
+}
+
 impl Records for FileHistory {
     ghost kept = { λ file. file.kept };
 
@@ -71,14 +81,12 @@ impl Records for FileHistory {
 
     ghost was_read = { λ _. ⊥ };
 
-    // This, `next` and `unread` go by the fields, since each call of a history over files has the code of its database
-    // proved again.
     fn first(&self) -> u64 {
         self.history.first
     }
 
     fn append(&mut self, alloc: Global, kind: Kind, bytes: &[u8]) -> Result<(), AppendFault> {
-        self.history.append(alloc, kind, bytes)
+        self.change(alloc, Change::Append(kind), bytes)
     }
 
     fn next(&mut self, _alloc: Global) -> Result<Option<Record>, ReadFault> {
@@ -94,7 +102,7 @@ impl Records for FileHistory {
     }
 
     fn compact(&mut self, alloc: Global, number: u64, bytes: &[u8]) -> Result<(), AppendFault> {
-        self.history.compact(alloc, number, bytes)
+        self.change(alloc, Change::Compact(number), bytes)
     }
 }
 

@@ -1,12 +1,19 @@
+use Rattle.std.proofs.lemmas.Result.{IfOk-at_ok, IfOk-weaker}
+use Rattle.sqlite.specs.Files.{file_state}
+use Rattle.sqlite.specs.Start.{FindsIn}
+use Rattle.sqlite.specs.State.{HasCleanDisk}
+use Rattle.sqlite.specs.WalFiles.{image_at}
 use Rattle.history.proofs.stores.open_at.Goals as goal
 
-pub open_or_create-requires : goal.open_or_create-requires
-open_or_create-requires g c = record { opens = λ early. (c.in-Ok.ensures.opened early).0 }
+pub take_opened-requires : goal.take_opened-requires
+take_opened-requires g c = IfOk-weaker c.open_from.result _ _ (λ conn opened clean. (opened clean).0) c.open_from.ensures.opened
 
-pub returns-in-Ok-open_or_create-clause-opened : goal.returns-in-Ok-open_or_create-clause-opened
-returns-in-Ok-open_or_create-clause-opened g c clean = record {
-  was = c.in-Ok.conn;
-  found = c.in-Ok.ensures.found (c.in-Ok-open_or_create.ensures.clean clean);
-  same = c.in-Ok-open_or_create.ensures.finds clean;
-  keeps = c.in-Ok-open_or_create.ensures.keeps clean;
-}
+pub returns-clause-opened : goal.returns-clause-opened
+returns-clause-opened g c = IfOk-weaker c.take_opened.result _ _ (λ taken made clean.
+    let was = made clean in
+    record {
+      was = was.0;
+      found = IfOk-at_ok (λ conn. HasCleanDisk (file_state conn) → FindsIn (image_at g.S.Start) (file_state conn)) was.1 c.open_from.ensures.found was.2;
+      same = was.3;
+      keeps = was.4;
+    }) c.take_opened.ensures.taken
