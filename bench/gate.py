@@ -4,10 +4,12 @@
     bench/gate.py [--log FILE] [--top N]
 
 It runs `rt ci` at the top of the repository, by `rt ci --anew` if the toolchain keeps what it proved and has that flag, so
-that all is proved from nothing. The output goes to FILE, by default `gate.log` in the folder for temporary files. Four times a second it reads the clocks of the checks that this has
-started, and sums them in the end: processor minutes for the proofs of libraries, of tests, for the must-fail edits (the
-first of a crate proves the crate again) and for the programs, and the most expensive crates of each. Where other work
-runs beside it, the same checks take more processor time.
+that all is proved from nothing. The output goes to FILE, by default `gate.log` in the folder for temporary files. Four
+times a second it reads the clocks of the checks that this has started, and sums them in the end: processor minutes for
+the proofs of libraries, of tests, for the must-fail edits (the first of a crate proves the crate again) and for the
+programs, and the most expensive crates of each. Where other work runs beside it, the same checks take more processor
+time. So do several jobs for one check: unless RT_JOBS is set it is the number of processors, by which each check has one
+job. `make test` leaves it to `rt`, and so ends sooner.
 
 Processors differ: one took half of another's time for each check. So it first times a fixed loop, and prints what that
 took beside the sums: divide them by it to compare two machines.
@@ -102,8 +104,9 @@ def watch(gate):
 
 def run(words, log):
     """Runs the gate with its output in a file: its status, its last line, and the seconds of its checks."""
+    environment = {"RT_JOBS": str(len(os.sched_getaffinity(0))), **os.environ}
     with open(log, "w", encoding="utf-8") as output:
-        gate = subprocess.Popen(words, cwd=TOP, stdin=subprocess.DEVNULL, stdout=output, stderr=subprocess.STDOUT)
+        gate = subprocess.Popen(words, cwd=TOP, env=environment, stdin=subprocess.DEVNULL, stdout=output, stderr=subprocess.STDOUT)
         sums = watch(gate)
     last = pathlib.Path(log).read_text(encoding="utf-8").rstrip("\n").rpartition("\n")[2]
     return gate.returncode, last, sums
