@@ -2,14 +2,13 @@
 
 ghost use Rattle.std.specs.Prelude.{◌≡◌, ◌++◌, ◌<◌, IfOk, OnOk, Some, string_bytes};
 ghost use Rattle.std.specs.Option.{option_map};
-ghost use Rattle.access_logs.specs.Lines.{IsLine, IsPut, IsSomeLine, IsNextLine, digit_of, escaped, escaped_byte, is_plain, outcome_string, quoted, start_string};
+ghost use Rattle.access_logs.specs.Lines.{IsLine, digit_of, escaped, escaped_byte, is_plain, outcome_string, quoted, start_string};
 
 use crate::entry::Entry;
 use crate::times::Time;
 use std::alloc::{AllocError, Global};
 use std::fmt;
 use std::net::IpAddr;
-use streams::WriteWhole;
 
 // Whether a byte is printed as it is.
 fn is_plain(byte: u8) -> bool
@@ -136,30 +135,4 @@ pub(crate) fn line_of(alloc: Global, entry: &Entry<'_>) -> Result<Vec<u8>, Alloc
     push_quoted(&mut line, entry.agent)?;
     line.push(b'\n')?;
     Ok(line)
-}
-
-// rule: Lost line of the log
-/// Returns the line of a reply, after a line feed if the log ends in a part of another.
-pub(crate) fn next_line(
-    alloc: Global,
-    is_cut: bool,
-    entry: &Entry<'_>,
-) -> Result<Vec<u8>, AllocError>
-    ensures line { IfOk result (λ line. IsNextLine is_cut entry.now line.items) }
-    ensures some { IfOk result (λ line. IsSomeLine is_cut line.items) }
-{
-    let line = line_of(alloc, entry)?;
-    if !is_cut {
-        return Ok(line);
-    }
-    let mut next = Vec::from_slice(alloc, b"\n")?;
-    next.extend_from_slice(&line)?;
-    Ok(next)
-}
-
-/// Writes bytes, and returns whether they are cut off.
-pub(crate) fn put<W: WriteWhole>(out: &mut W, bytes: &[u8]) -> bool
-    ensures { IsPut bytes.now (W.output out.old) (W.output out.new) result }
-{
-    out.write_whole(bytes).is_err()
 }
