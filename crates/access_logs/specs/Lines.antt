@@ -1,11 +1,8 @@
 -- What a line of the log has of a message; this project's profile.
-use Rattle.std.specs.Prelude.{◌≡◌, ◌⊎◌, ◌++◌, ◌+◌, ◌&&◌, ◌/◌, ◌%◌, ℕ, Bool, true, false, not, nat_eq, nat_lt, if◌then◌else◌, List, [], ◌∷◌, codes, decimal, flat_map, Option, None, Some}
-use Rattle.std.specs.Io.KnownBytes.{Appends}
+use Rattle.std.specs.Prelude.{◌≡◌, ◌++◌, ◌+◌, ◌&&◌, ◌/◌, ◌%◌, ℕ, Bool, not, nat_eq, nat_lt, if◌then◌else◌, List, [], ◌∷◌, codes, decimal, flat_map, Option, None, Some}
 use Rattle.std.specs.Option.{option_map}
 use Rattle.std.specs.Net.Text.{ip_text}
 use Rattle.std.specs.declared.net.ip_addr.IpAddr.{IpAddr}
-use Rattle.streams.specs.Streams.{Known}
-use Rattle.streams.specs.Writing.{Breaks}
 use Rattle.access_logs.specs.declared.entry.Entry.{Entry}
 
 -- a byte that is printed as it is: of printable ASCII, and no quote and no backslash
@@ -48,24 +45,3 @@ IsLine entry line =
     ≡ start_string entry.address ++ escaped time ++ codes "] " ++ quoted (Some entry.line.now)
     ++ outcome_string entry.status entry.size
     ++ quoted (option_map (λ b. b.now) entry.referrer) ++ 32 ∷ quoted (option_map (λ b. b.now) entry.agent) ++ 10 ∷ [])
-
--- what is written of a line: the line, after a line feed if the log ends in a part of another
-abbrev pub IsNextLine : Bool → Entry → List ℕ → Type 0
-IsNextLine is_cut entry bytes =
-    (line : List ℕ) × IsLine entry line × (bytes ≡ (if is_cut then 10 ∷ line else line))
-
--- the same of some reply
-abbrev pub IsSomeLine : Bool → List ℕ → Type 0
-IsSomeLine is_cut bytes = (entry : Entry) × IsNextLine is_cut entry bytes
-
--- the bytes were written whole; or the writer failed within them, and the log ends in a part of a line
-abbrev pub IsPut : List ℕ → Known → Known → Bool → Type 0
-IsPut bytes before after false = Appends before.bytes after.bytes bytes
-IsPut bytes before after true = Breaks before after bytes
-
--- rule: Lost line of the log
--- one line was written and nothing else, or a part of it; or nothing, as memory ran out
-abbrev pub IsLogged : Bool → Known → Known → Bool → Type 0
-IsLogged was_cut before after is_cut =
-    ((bytes : List ℕ) × IsSomeLine was_cut bytes × IsPut bytes before after is_cut)
-    ⊎ ((after ≡ before) × (is_cut ≡ was_cut))

@@ -5,15 +5,10 @@
 //! sent to the log's writer by a `LineSender`, or counted as lost: read `specs/Replies.antt`, `specs/Entries.antt` and
 //! `specs/Logs.antt`. The `Places` of its slots are made before, so that it begins without memory.
 //!
-//! `AccessLog` is a `Watch` of a server's connections, one after the other, and `ReplyLog` one of many that are open at
-//! once, of each of which it keeps what it has `Seen`. Once a reply has been written, it writes a line: the address,
-//! the time, the first line of the message, the status, how many bytes the body of the reply had, the referrer and the
-//! program that asked. Every byte that is not printable ASCII is printed as `\x` and two digits, and so are a quote and
-//! a backslash.
-//!
-//! It holds up no reply and rejects none: a line that can't be written is lost, and so is one that memory is lacking
-//! for. Read `specs/Lines.antt` for the bytes of a line. Of these two logs it is tested and not proved which message a
-//! line is of; its time is tested of all.
+//! A line has the address, the time, the first line of the message, the status, how many bytes the body of the reply had,
+//! the referrer and the program that asked. Every byte that is not printable ASCII is printed as `\x` and two digits, and
+//! so are a quote and a backslash: read `specs/Lines.antt`. The log holds up no reply and rejects none: a line that can't
+//! be written is lost, and so is one that memory is lacking for. The time of a line is tested and not proved.
 //!
 //! `queues` has the lines of a log on their way to a thread that writes them. A sender waits for nobody: a line goes
 //! into its ring of bytes whole, or is counted as lost.
@@ -26,7 +21,6 @@ mod cut;
 mod entry;
 mod kept;
 mod lines;
-mod log;
 mod logged_port;
 mod message;
 mod places;
@@ -36,7 +30,6 @@ mod seen;
 mod times;
 
 pub use crate::cut::{CutReply, LastReply};
-pub use crate::log::{AccessLog, ReplyLog};
 pub use crate::logged_port::LoggedPort;
 pub use crate::places::Places;
 pub use crate::queues::{

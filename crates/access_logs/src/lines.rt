@@ -1,15 +1,14 @@
 // The lines of the log.
 
-ghost use Rattle.std.specs.Prelude.{◌≡◌, ◌++◌, ◌<◌, IfOk, OnOk, Some, string_bytes};
+ghost use Rattle.std.specs.Prelude.{◌≡◌, ◌++◌, ◌<◌, ℕ, IfOk, List, OnOk, Some};
 ghost use Rattle.std.specs.Option.{option_map};
-ghost use Rattle.access_logs.specs.Lines.{IsLine, IsPut, IsSomeLine, IsNextLine, digit_of, escaped, escaped_byte, is_plain, outcome_string, quoted, start_string};
+ghost use Rattle.access_logs.specs.Lines.{IsLine, digit_of, escaped, escaped_byte, is_plain, outcome_string, quoted, start_string};
 
 use crate::entry::Entry;
 use crate::times::Time;
 use std::alloc::{AllocError, Global};
 use std::fmt;
 use std::net::IpAddr;
-use streams::WriteWhole;
 
 // Whether a byte is printed as it is.
 fn is_plain(byte: u8) -> bool
@@ -79,12 +78,22 @@ impl fmt::Display for Start {
     }
 }
 
-// The address up to the time as a string.
-fn start_of(alloc: Global, address: Option<IpAddr>) -> Result<String, AllocError>
-    ensures { IfOk result (λ start. string_bytes start ≡ start_string address) }
+// Appends the address up to the time.
+fn push_start(line: &mut Vec<u8>, alloc: Global, address: Option<IpAddr>) -> Result<(), AllocError>
+    ensures { OnOk result (line.new.items ≡ line.old.items ++ start_string address) }
 {
     let start = Start { address };
-    format!(in alloc; "{start}")
+    let start = format!(in alloc; "{start}")?;
+    line.extend_from_slice(start.as_str().as_bytes())
+}
+
+// Appends a time, escaped.
+fn push_time(line: &mut Vec<u8>, alloc: Global, seconds: u64) -> Result<(), AllocError>
+    ensures { OnOk result ((time : List ℕ) × (line.new.items ≡ line.old.items ++ escaped time)) }
+{
+    let time = Time { seconds };
+    let time = format!(in alloc; "{time}")?;
+    push_escaped(line, time.as_str().as_bytes())
 }
 
 // What came of a message: the status of its reply, or a dash, and the size of the reply's body.
@@ -106,12 +115,18 @@ impl fmt::Display for Outcome {
     }
 }
 
-// The outcome as a string.
-fn outcome_of(alloc: Global, status: Option<u16>, size: u64) -> Result<String, AllocError>
-    ensures { IfOk result (λ outcome. string_bytes outcome ≡ outcome_string status size) }
+// Appends the outcome.
+fn push_outcome(
+    line: &mut Vec<u8>,
+    alloc: Global,
+    status: Option<u16>,
+    size: u64,
+) -> Result<(), AllocError>
+    ensures { OnOk result (line.new.items ≡ line.old.items ++ outcome_string status size) }
 {
     let outcome = Outcome { status, size };
-    format!(in alloc; "{outcome}")
+    let outcome = format!(in alloc; "{outcome}")?;
+    line.extend_from_slice(outcome.as_str().as_bytes())
 }
 
 // rule: Line of the log
@@ -119,47 +134,15 @@ fn outcome_of(alloc: Global, status: Option<u16>, size: u64) -> Result<String, A
 pub(crate) fn line_of(alloc: Global, entry: &Entry<'_>) -> Result<Vec<u8>, AllocError>
     ensures { IfOk result (λ line. IsLine entry.now line.items) }
 {
-    let time = Time {
-        seconds: entry.seconds,
-    };
-    let time = format!(in alloc; "{time}")?;
-    let start = start_of(alloc, entry.address)?;
-    let outcome = outcome_of(alloc, entry.status, entry.size)?;
     let mut line = Vec::new(alloc);
-    line.extend_from_slice(start.as_str().as_bytes())?;
-    push_escaped(&mut line, time.as_str().as_bytes())?;
+    push_start(&mut line, alloc, entry.address)?;
+    push_time(&mut line, alloc, entry.seconds)?;
     line.extend_from_slice(b"] ")?;
     push_quoted(&mut line, Some(entry.line))?;
-    line.extend_from_slice(outcome.as_str().as_bytes())?;
+    push_outcome(&mut line, alloc, entry.status, entry.size)?;
     push_quoted(&mut line, entry.referrer)?;
     line.push(b' ')?;
     push_quoted(&mut line, entry.agent)?;
     line.push(b'\n')?;
     Ok(line)
-}
-
-// rule: Lost line of the log
-/// Returns the line of a reply, after a line feed if the log ends in a part of another.
-pub(crate) fn next_line(
-    alloc: Global,
-    is_cut: bool,
-    entry: &Entry<'_>,
-) -> Result<Vec<u8>, AllocError>
-    ensures line { IfOk result (λ line. IsNextLine is_cut entry.now line.items) }
-    ensures some { IfOk result (λ line. IsSomeLine is_cut line.items) }
-{
-    let line = line_of(alloc, entry)?;
-    if !is_cut {
-        return Ok(line);
-    }
-    let mut next = Vec::from_slice(alloc, b"\n")?;
-    next.extend_from_slice(&line)?;
-    Ok(next)
-}
-
-/// Writes bytes, and returns whether they are cut off.
-pub(crate) fn put<W: WriteWhole>(out: &mut W, bytes: &[u8]) -> bool
-    ensures { IsPut bytes.now (W.output out.old) (W.output out.new) result }
-{
-    out.write_whole(bytes).is_err()
 }

@@ -49,13 +49,6 @@ impl Seen {
         }
     }
 
-    // Takes over the address of the next connection.
-    pub(crate) fn set_address(&mut self, address: Option<IpAddr>)
-        ensures { (piece : Piece) → IsSeenOf piece self.old → IsSeenOf piece self.new }
-    {
-        self.address = address;
-    }
-
     // Notes bytes of the message.
     pub(crate) fn read(&mut self, bytes: &[u8])
         ensures { (piece : Piece) → IsSeenOf piece self.old → IsSeenOf (with_message piece bytes.now) self.new }

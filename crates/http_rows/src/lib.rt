@@ -26,8 +26,6 @@ mod scripted;
 #[cfg(test)]
 mod session_tests;
 #[cfg(test)]
-mod tests;
-#[cfg(test)]
 mod whole_tests;
 #[cfg(test)]
 mod writers;
