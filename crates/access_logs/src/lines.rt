@@ -1,6 +1,6 @@
 // The lines of the log.
 
-ghost use Rattle.std.specs.Prelude.{◌≡◌, ◌++◌, ◌<◌, ℕ, IfOk, List, OnOk, Some};
+ghost use Rattle.std.specs.Prelude.{◌≡◌, ◌++◌, ◌<◌, IfOk, OnOk, Some, string_bytes};
 ghost use Rattle.std.specs.Option.{option_map};
 ghost use Rattle.access_logs.specs.Lines.{IsLine, digit_of, escaped, escaped_byte, is_plain, outcome_string, quoted, start_string};
 
@@ -78,22 +78,12 @@ impl fmt::Display for Start {
     }
 }
 
-// Appends the address up to the time.
-fn push_start(line: &mut Vec<u8>, alloc: Global, address: Option<IpAddr>) -> Result<(), AllocError>
-    ensures { OnOk result (line.new.items ≡ line.old.items ++ start_string address) }
+// The address up to the time as a string.
+fn start_of(alloc: Global, address: Option<IpAddr>) -> Result<String, AllocError>
+    ensures { IfOk result (λ start. string_bytes start ≡ start_string address) }
 {
     let start = Start { address };
-    let start = format!(in alloc; "{start}")?;
-    line.extend_from_slice(start.as_str().as_bytes())
-}
-
-// Appends a time, escaped.
-fn push_time(line: &mut Vec<u8>, alloc: Global, seconds: u64) -> Result<(), AllocError>
-    ensures { OnOk result ((time : List ℕ) × (line.new.items ≡ line.old.items ++ escaped time)) }
-{
-    let time = Time { seconds };
-    let time = format!(in alloc; "{time}")?;
-    push_escaped(line, time.as_str().as_bytes())
+    format!(in alloc; "{start}")
 }
 
 // What came of a message: the status of its reply, or a dash, and the size of the reply's body.
@@ -115,18 +105,12 @@ impl fmt::Display for Outcome {
     }
 }
 
-// Appends the outcome.
-fn push_outcome(
-    line: &mut Vec<u8>,
-    alloc: Global,
-    status: Option<u16>,
-    size: u64,
-) -> Result<(), AllocError>
-    ensures { OnOk result (line.new.items ≡ line.old.items ++ outcome_string status size) }
+// The outcome as a string.
+fn outcome_of(alloc: Global, status: Option<u16>, size: u64) -> Result<String, AllocError>
+    ensures { IfOk result (λ outcome. string_bytes outcome ≡ outcome_string status size) }
 {
     let outcome = Outcome { status, size };
-    let outcome = format!(in alloc; "{outcome}")?;
-    line.extend_from_slice(outcome.as_str().as_bytes())
+    format!(in alloc; "{outcome}")
 }
 
 // rule: Line of the log
@@ -134,12 +118,18 @@ fn push_outcome(
 pub(crate) fn line_of(alloc: Global, entry: &Entry<'_>) -> Result<Vec<u8>, AllocError>
     ensures { IfOk result (λ line. IsLine entry.now line.items) }
 {
+    let time = Time {
+        seconds: entry.seconds,
+    };
+    let time = format!(in alloc; "{time}")?;
+    let start = start_of(alloc, entry.address)?;
+    let outcome = outcome_of(alloc, entry.status, entry.size)?;
     let mut line = Vec::new(alloc);
-    push_start(&mut line, alloc, entry.address)?;
-    push_time(&mut line, alloc, entry.seconds)?;
+    line.extend_from_slice(start.as_str().as_bytes())?;
+    push_escaped(&mut line, time.as_str().as_bytes())?;
     line.extend_from_slice(b"] ")?;
     push_quoted(&mut line, Some(entry.line))?;
-    push_outcome(&mut line, alloc, entry.status, entry.size)?;
+    line.extend_from_slice(outcome.as_str().as_bytes())?;
     push_quoted(&mut line, entry.referrer)?;
     line.push(b' ')?;
     push_quoted(&mut line, entry.agent)?;
