@@ -54,59 +54,59 @@ fn connect<D: Crash + Drop>(alloc: Global, files: Files<D>) -> Option<Connection
     }
 }
 
+// What is left of a history that was lived with.
+#[derive(Drop)]
+enum Left<S: Alter> {
+    // The store of a history that is there no more.
+    Store(S),
+    // The history.
+    History(History<S>),
+}
+
 // Opens the history of a database, or makes one, whose records may have 10 bytes together, and lives with it.
 fn live_over<S: Alter + Drop, L: Life>(
     alloc: Global,
     conn: Connection<S>,
     life: &mut L,
-) -> Option<History<S>>
+    crashes: bool,
+) -> Option<Left<S>>
     requires { HasCleanDisk (state S.Store conn) → Opens (state S.Store conn) }
 {
     match History::open_or_create(alloc, conn, 10) {
         Ok((history, found)) => {
             let mut history = history;
             life.live(alloc, &mut history, &found);
-            Some(history)
+            if crashes {
+                Some(Left::Store(history.into_connection().into_store()))
+            } else {
+                Some(Left::History(history))
+            }
         }
         Err((_fault, _conn)) => None,
     }
 }
 
-// The same of the database in two files.
+// Files as a crash leaves them.
+fn crashed<D: Crash>(files: Files<D>) -> Files<D> {
+    let mut files = files;
+    files.log.crash();
+    files.db.crash();
+    files
+}
+
+// Lives with the history in two files; then a crash, or a close. One function does both, since each that calls a history
+// over files has the code of its database proved again.
 fn live_in<D: Crash + Drop, L: Life>(
     alloc: Global,
     files: Files<D>,
     life: &mut L,
-) -> Option<History<FileStore<D>>> {
+    crashes: bool,
+) -> Option<Files<D>> {
     let conn = connect(alloc, files)?;
-    live_over(alloc, conn, life)
-}
-
-// The store of a history that is there no more.
-fn store_of<S: Alter + Drop>(history: History<S>) -> S {
-    history.into_connection().into_store()
-}
-
-// Lives with the history in two files; then a crash.
-fn crash_in<D: Crash + Drop, L: Life>(
-    alloc: Global,
-    files: Files<D>,
-    life: &mut L,
-) -> Option<Files<D>> {
-    let store = store_of(live_in(alloc, files, life)?);
-    let mut files = store.close();
-    files.log.crash();
-    files.db.crash();
-    Some(files)
-}
-
-// Lives with it; then a close.
-fn close_in<D: Crash + Drop, L: Life>(
-    alloc: Global,
-    files: Files<D>,
-    life: &mut L,
-) -> Option<Files<D>> {
-    live_in(alloc, files, life)?.close().ok()
+    match live_over(alloc, conn, life, crashes)? {
+        Left::Store(store) => Some(crashed(store.close())),
+        Left::History(history) => history.close().ok(),
+    }
 }
 
 impl Disk {
@@ -114,14 +114,14 @@ impl Disk {
     /// back the disk, as a crash leaves it. `None` if there is no history, and nothing was done.
     pub fn crash_after<L: Life>(self, alloc: Global, life: &mut L) -> Option<Disk> {
         let Disk { files } = self;
-        let files = crash_in(alloc, files, life)?;
+        let files = live_in(alloc, files, life, true)?;
         Some(Disk { files })
     }
 
     /// The same, but closes the history. `None` also if that fails.
     pub fn close_after<L: Life>(self, alloc: Global, life: &mut L) -> Option<Disk> {
         let Disk { files } = self;
-        let files = close_in(alloc, files, life)?;
+        let files = live_in(alloc, files, life, false)?;
         Some(Disk { files })
     }
 }
