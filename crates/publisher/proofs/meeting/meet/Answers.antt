@@ -1,4 +1,4 @@
-use Rattle.std.proofs.Common.{◌≡◌, ⊎_elim, subst, sym, true≢false, ◌∙◌}
+use Rattle.std.proofs.Common.{◌≡◌, ⊎_elim, rules, subst, sym, true≢false, ◌∙◌}
 use Rattle.publisher.specs.Beginnings.{StartsWith}
 use Rattle.publisher.specs.Sights.{Allows, Sight}
 use Rattle.publisher.proofs.HeardLemmas.{beginnings-linked}
@@ -16,6 +16,12 @@ returns-in-Ok-clause-linked c seen is =
     let learnt = c.hear.ensures.learnt now c.in-Ok.ensures.entered in
     let before = subst (λ (sight : Sight). Allows sight now) is learnt.0 in
     beginnings-linked now seen c.args.press.now before.1.0 (subst (StartsWith now) c.published.ensures learnt.1)
+
+pub returns-in-Err-clause-met : goal.returns-in-Err-clause-met
+returns-in-Err-clause-met c = search rules
+
+pub returns-in-Err-clause-linked : goal.returns-in-Err-clause-linked
+returns-in-Err-clause-linked c = search rules
 
 pub returns-in-Err-clause-learnt : goal.returns-in-Err-clause-learnt
 returns-in-Err-clause-learnt c now allows =
