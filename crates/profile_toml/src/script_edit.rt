@@ -217,18 +217,18 @@ fn read_edit_of(verb: Verb, table: &TableReader<'_>) -> Result<Edit, ReadError<B
     ensures { Reads (λ edit. edit) result (edit_in verb (placed table.now)) }
 {
     match verb {
-        Verb::AddApp => Ok(Edit::AddApp(read_add_app(table)?)),
-        Verb::AddRelease => Ok(Edit::AddRelease(read_add_release(table)?)),
-        Verb::AddCohort => Ok(Edit::AddCohort(read_add_cohort(table)?)),
-        Verb::SetTarget => Ok(Edit::SetTarget(read_set_target(table)?)),
-        Verb::SetShare => Ok(Edit::SetShare(read_set_share(table)?)),
-        Verb::SetOpen => Ok(Edit::SetOpen(read_set_open(table)?)),
-        Verb::AddDiff => Ok(Edit::AddDiff(read_add_diff(table)?)),
-        Verb::SetStone => Ok(Edit::SetStone(read_set_stone(table)?)),
-        Verb::SetWithdrawn => Ok(Edit::SetWithdrawn(read_set_withdrawn(table)?)),
-        Verb::SetAudience => Ok(Edit::SetAudience(read_set_audience(table)?)),
-        Verb::SetFloor => Ok(Edit::SetFloor(read_set_floor(table)?)),
-        Verb::SetRollback => Ok(Edit::SetRollback(read_set_rollback(table)?)),
+        Verb::AddApp => read_add_app(table).map(Edit::AddApp),
+        Verb::AddRelease => read_add_release(table).map(Edit::AddRelease),
+        Verb::AddCohort => read_add_cohort(table).map(Edit::AddCohort),
+        Verb::SetTarget => read_set_target(table).map(Edit::SetTarget),
+        Verb::SetShare => read_set_share(table).map(Edit::SetShare),
+        Verb::SetOpen => read_set_open(table).map(Edit::SetOpen),
+        Verb::AddDiff => read_add_diff(table).map(Edit::AddDiff),
+        Verb::SetStone => read_set_stone(table).map(Edit::SetStone),
+        Verb::SetWithdrawn => read_set_withdrawn(table).map(Edit::SetWithdrawn),
+        Verb::SetAudience => read_set_audience(table).map(Edit::SetAudience),
+        Verb::SetFloor => read_set_floor(table).map(Edit::SetFloor),
+        Verb::SetRollback => read_set_rollback(table).map(Edit::SetRollback),
     }
 }
 

@@ -1,4 +1,5 @@
 use Rattle.std.proofs.Common.{◌++◌, ◌≤◌, ℕ, [], ◌∷◌, length, take, Some, inl, inr, sym, subst, ◌∙◌, arith}
+use Rattle.std.proofs.lemmas.Grind.{common_steps}
 use Rattle.std.specs.Io.KnownBytes.{Appends}
 use Rattle.http_wire.proofs.KnownLemmas.{Appends-then}
 use Rattle.http_desks.specs.Downloads.{IsRead, full_blocks, joined_blocks}
@@ -42,3 +43,6 @@ returns-in-Err-send-clause-downloads g c =
       digest,
       AppendsPart-last _ _ _ (joined_blocks blocks) end sent c.in-Err-send.ensures.sends,
     )
+
+pub returns-in-Ok-send-clause-downloads : goal.returns-in-Ok-send-clause-downloads
+returns-in-Ok-send-clause-downloads g c = grind (arith, common_steps)
