@@ -10,10 +10,56 @@ use std::sync::Wait;
 use std::sync::atomic::{AtomicU64, Ordering};
 use std::thread::Threads;
 
-// Asks for so many bytes so many times, and counts how often they were granted.
+// Counts the jobs that begin, the sum of their marks, and their tables.
+#[derive(Drop)]
+struct Counter {
+    begun: AtomicU64,
+    marks: AtomicU64,
+    tables: AtomicU64,
+}
+
+impl Counter {
+    fn new() -> Counter {
+        Counter {
+            begun: AtomicU64::new(0),
+            marks: AtomicU64::new(0),
+            tables: AtomicU64::new(0),
+        }
+    }
+
+    // How many began, the sum of their marks, and their tables.
+    fn counts(&self) -> (u64, u64, u64) {
+        (
+            self.begun.load(Ordering::SeqCst),
+            self.marks.load(Ordering::SeqCst),
+            self.tables.load(Ordering::SeqCst),
+        )
+    }
+
+    // So often if a mark is there, else never.
+    fn times_of(&self, mark: u64, times: u32) -> u32 {
+        match self.marks.load(Ordering::SeqCst) & mark {
+            0 => 0,
+            _ => times,
+        }
+    }
+}
+
+impl Gate for Counter {
+    fn begin(&self, piece: usize, tables: usize) {
+        let mark = if piece == 0 { 1 } else { 2 };
+        self.begun.fetch_add(1, Ordering::SeqCst);
+        self.marks.fetch_add(mark, Ordering::SeqCst);
+        self.tables.fetch_add(tables as u64, Ordering::SeqCst);
+    }
+}
+
+// Asks for so many bytes so many times, if the gate was called for it before, and counts how often they were granted.
 #[derive(Drop)]
 struct Asking<'a, R> {
     rt: &'a R,
+    gate: &'a Counter,
+    mark: u64,
     bytes: u64,
     times: u32,
 }
@@ -24,9 +70,10 @@ impl<R: Wait> TillJob for Asking<'_, R> {
     ghost comes_to = { λ _ _ _ _ _. ⊤ };
 
     fn work<T: Till + Drop>(self, till: T) -> (T, u64) {
+        let times = self.gate.times_of(self.mark, self.times);
         let mut till = till;
         let mut granted: u64 = 0;
-        for _ask in 0..self.times {
+        for _ask in 0..times {
             if till.grant_first(self.rt, self.bytes).is_some() {
                 granted = granted.saturating_add(1);
             }
@@ -60,17 +107,29 @@ impl<R: Wait> BudgetJob for Raising<'_, R> {
     }
 }
 
+// A job of a mark.
+fn job_of<'a, R>(rt: &'a R, gate: &'a Counter, mark: u64, asks: (u64, u32)) -> Asking<'a, R> {
+    let (bytes, times) = asks;
+    Asking {
+        rt,
+        gate,
+        mark,
+        bytes,
+        times,
+    }
+}
+
 fn two_jobs<'a, R>(
     rt: &'a R,
+    gate: &'a Counter,
     alloc: Global,
-    bytes: u64,
-    times: u32,
+    asks: (u64, u32),
 ) -> Result<Vec<Asking<'a, R>>, AllocError>
     ensures { IfOk result (λ jobs. vec_len jobs ≡ 2) }
 {
     let mut jobs = Vec::new(alloc);
-    jobs.push(Asking { rt, bytes, times })?;
-    jobs.push(Asking { rt, bytes, times })?;
+    jobs.push(job_of(rt, gate, 1, asks))?;
+    jobs.push(job_of(rt, gate, 2, asks))?;
     Ok(jobs)
 }
 
@@ -83,32 +142,6 @@ fn granted_in<J: TillJob<End = u64> + Drop>(ends: &[Result<u64, J>]) -> u64 {
         }
     }
     granted
-}
-
-// Counts the jobs that begin, the sum of their numbers, and their tables.
-#[derive(Drop)]
-struct Counter {
-    begun: AtomicU64,
-    numbers: AtomicU64,
-    tables: AtomicU64,
-}
-
-impl Counter {
-    fn new() -> Counter {
-        Counter {
-            begun: AtomicU64::new(0),
-            numbers: AtomicU64::new(0),
-            tables: AtomicU64::new(0),
-        }
-    }
-}
-
-impl Gate for Counter {
-    fn begin(&self, piece: usize, tables: usize) {
-        self.begun.fetch_add(1, Ordering::SeqCst);
-        self.numbers.fetch_add(piece as u64, Ordering::SeqCst);
-        self.tables.fetch_add(tables as u64, Ordering::SeqCst);
-    }
 }
 
 // What two workers and the raises beside them came to: how many asks were granted, to what the budget was raised, and
@@ -135,14 +168,14 @@ fn run<R: Threads + Wait + Sync + AllocGlobal>(
     rt: &R,
     gate: &Counter,
     budgets: &str,
-    (bytes, times): (u64, u32),
+    asks: (u64, u32),
     to: u64,
 ) -> Option<Outcome> {
     let mirrors = named_mirrors(rt.alloc(), budgets)?;
     if !has_bounds(&mirrors) {
         return None;
     }
-    let jobs = two_jobs(rt, rt.alloc(), bytes, times).ok()?;
+    let jobs = two_jobs(rt, gate, rt.alloc(), asks).ok()?;
     match run_with_tills(rt, rt.alloc(), mirrors, gate, jobs, &mut Raising { rt, to }) {
         Ok(ran) => Some(outcome_of(ran)),
         Err(_) => None,
@@ -163,28 +196,20 @@ fn is_within<R: Threads + Wait + Sync + AllocGlobal>(
 
 // rule: Raise of a budget
 // rule: Budget of a mirror
+// rule: Jobs of threads
+// The gate is called once in each thread, before its job.
 #[test]
 fn grants_no_more_than_the_budget_was_raised_to(rt: HostRuntime) {
-    assert!(rt; is_within(&rt, &Counter::new(), 5000, 1200) == Some(true));
-}
-
-// rule: Jobs of threads
-#[test]
-fn calls_the_gate_once_in_each_thread(rt: HostRuntime) {
     let gate = Counter::new();
-    assert!(rt; is_within(&rt, &gate, 1, 2) == Some(true));
-    assert!(rt; gate.begun.load(Ordering::SeqCst) == 2);
-    assert!(rt; gate.numbers.load(Ordering::SeqCst) == 1);
-    assert!(rt; gate.tables.load(Ordering::SeqCst) == 0);
+    let is_within = is_within(&rt, &gate, 5000, 1200);
+    assert!(rt; is_within == Some(true) && gate.counts() == (2, 3, 0));
 }
 
 // A row is the budgets, how often each of two workers asks for how many bytes, and how many asks are granted, then the
 // totals.
 const ROWS: &str = "1000|600 of 1|1000 1000
-30000 0 60000 10000|55000 of 1|100000 30000 0 60000 10000";
-
-// Rows in which both ask for more than is left.
-const REJECTED: &str = "1000|2 of 600|1 600
+30000 0 60000 10000|55000 of 1|100000 30000 0 60000 10000
+1000|2 of 600|1 600
 1000 599|2 of 600|1 600 0
 599 598 0 1|9 of 600|0 0 0 0 0
 1200 600|2 of 600|3 1200 600
@@ -210,20 +235,22 @@ fn is_granted<R: Threads + Wait + Sync + AllocGlobal>(rt: &R, row: &str) -> bool
     is_line(print_outcome(rt, budgets, asks), wanted)
 }
 
+// The first row whose asks aren't granted so; `none` if there is none.
+fn wrong_row<R: Threads + Wait + Sync + AllocGlobal>(rt: &R) -> &'static str {
+    for row in ROWS.lines() {
+        if !is_granted(rt, row) {
+            return row;
+        }
+    }
+    "none"
+}
+
 // rule: Budget of a mirror
+// rule: Rejected asks
 // rule: Shares and asks
 // rule: Total of a mirror
 #[test]
 fn totals_agree_with_a_hundred_thousand_grants(rt: HostRuntime) {
-    for row in ROWS.lines() {
-        assert!(rt; is_granted(&rt, row), "{row}");
-    }
-}
-
-// rule: Rejected asks
-#[test]
-fn rejects_what_no_mirror_has_room_for(rt: HostRuntime) {
-    for row in REJECTED.lines() {
-        assert!(rt; is_granted(&rt, row), "{row}");
-    }
+    let wrong = wrong_row(&rt);
+    assert!(rt; wrong == "none", "{wrong}");
 }

@@ -1,6 +1,6 @@
 // Two threads that publish by one press.
 
-use fixtures::{CHAINED, open_profile, publish_edits};
+use fixtures::{CHAINED, open_profile, publish_empty};
 use publisher::{Press, PublishError};
 use std::alloc::Global;
 use std::sync::{Mutex, Wait};
@@ -55,7 +55,7 @@ fn publish_once<R: Threads + Wait>(
     turns: Turns,
 ) -> Turns {
     let mut press = press.lock(rt);
-    match publish_edits(rt, alloc, &mut press, turns.base, "") {
+    match publish_empty(rt, alloc, &mut press, turns.base) {
         Ok(receipt) => turns.accept(receipt.edition()),
         Err(PublishError::Stale(receipt)) => turns.miss(receipt.edition()),
         Err(_) => turns,

@@ -1,40 +1,47 @@
 // Two threads that enter editions while a third publishes.
 
-use crate::plans::chooses_before_withdrawal;
-use fixtures::{CHAINED, open_profile, publish_edits};
+use editions::Edition;
+use fixtures::{CHAINED, open_profile, publish_empty};
 use publisher::{Press, Receipt, View, may_enter, meet};
 use std::alloc::Global;
 use std::sync::Wait;
 use std::thread::{Threads, join};
 
-// A view, and whether its numbers never fell and each edition had the choice.
+// A view, and whether its numbers never fell and each edition was whole.
 #[derive(Drop)]
 struct Entries {
     view: View,
     are_kept: bool,
 }
 
-// Enters once: the view, and the number of the edition; 0 if there was none or it had another choice.
-fn enter(alloc: Global, view: View) -> (View, u64) {
+// The number of an edition that has its batches, its package and its tables, else 0.
+fn number_of(edition: &Edition) -> u64 {
+    let has_batches = edition.batches().len() as u64 == edition.number();
+    let has_package = edition.catalogue().package("demo-1.0-2.0.bin").is_some();
+    if has_batches && has_package && edition.tables().len() == 4 {
+        edition.number()
+    } else {
+        0
+    }
+}
+
+// Enters once: the view, and the number of the edition; 0 if there was none or it wasn't whole.
+fn enter(view: View) -> (View, u64) {
     match view.enter() {
         Ok(entered) => {
-            let edition = entered.edition();
-            let number = match chooses_before_withdrawal(alloc, edition) {
-                true => edition.number(),
-                false => 0,
-            };
+            let number = number_of(entered.edition());
             (entered.leave(), number)
         }
         Err(view) => (view, 0),
     }
 }
 
-fn enter_often(alloc: Global, view: View, times: u32) -> Entries {
+fn enter_often(view: View, times: u32) -> Entries {
     let mut view = view;
     let mut last = 1;
     let mut are_kept = true;
     for _entry in 0..times {
-        let (back, number) = enter(alloc, view);
+        let (back, number) = enter(view);
         view = back;
         are_kept = are_kept && last <= number;
         last = number;
@@ -51,7 +58,7 @@ fn publish_often<R: Threads + Sync + Wait>(
 ) -> Option<Receipt> {
     let mut last = None;
     for base in 1..=times {
-        last = publish_edits(rt, alloc, press, base, "").ok();
+        last = publish_empty(rt, alloc, press, base).ok();
     }
     last
 }
@@ -70,8 +77,8 @@ fn run<R: Threads + Wait + Sync>(
         move || {
             join(
                 rt,
-                move || enter_often(alloc, one, 1000),
-                move || enter_often(alloc, two, 1000),
+                move || enter_often(one, 1000),
+                move || enter_often(two, 1000),
             )
         },
     )
@@ -86,16 +93,16 @@ fn is_let_in(press: &Press, view: View) -> bool {
 }
 
 // Whether a view that learns a receipt and enters once more meets the press at 101, and may enter that.
-fn is_met(alloc: Global, press: &Press, entries: Entries, receipt: &Receipt) -> bool {
+fn is_met(press: &Press, entries: Entries, receipt: &Receipt) -> bool {
     let Entries { view, are_kept } = entries;
     let mut view = view;
     view.learn(receipt);
-    let (view, number) = enter(alloc, view);
+    let (view, number) = enter(view);
     let (view, numbers) = meet(press, view);
     are_kept && number == 101 && numbers == Some((101, 101)) && is_let_in(press, view)
 }
 
-// Whether two views of a press keep their numbers and the choice, and meet it at 101.
+// Whether two views of a press keep their numbers and find whole editions, and meet it at 101.
 fn are_met<R: Threads + Wait + Sync>(
     rt: &R,
     alloc: Global,
@@ -108,9 +115,7 @@ fn are_met<R: Threads + Wait + Sync>(
     };
     let (receipt, (first, second)) = run(rt, alloc, press, one, two);
     match receipt {
-        Some(receipt) => {
-            is_met(alloc, press, first, &receipt) && is_met(alloc, press, second, &receipt)
-        }
+        Some(receipt) => { is_met(press, first, &receipt) && is_met(press, second, &receipt) }
         None => false,
     }
 }
@@ -125,10 +130,12 @@ fn rises<R: Threads + Wait + Sync>(rt: &R, alloc: Global) -> bool {
     are_met
 }
 
+// rule: Beginning of a history
 // rule: History of the published edition
 // rule: Entry of a view
 // rule: Learnt history
 // rule: Meeting of a press and a view
+// rule: Opening
 #[test]
 fn numbers_never_fall_while_another_thread_publishes(rt: HostRuntime) {
     assert!(rt; rises(&rt, rt.alloc()));
