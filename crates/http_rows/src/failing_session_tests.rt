@@ -38,15 +38,21 @@ fn is_served_before(rt: &HostRuntime, sent: &[u8], piece: usize) -> bool {
     serve_sent(rt, sent, piece, replies) == ((count, how), true)
 }
 
+// How many bytes come before the first cut at which it doesn't; `None` if there is none.
+fn wrong_cut(rt: &HostRuntime, piece: usize) -> Option<usize> {
+    for end in 0..=SENT.len() {
+        if !is_served_before(rt, &SENT[..end], piece) {
+            return Some(end);
+        }
+    }
+    None
+}
+
 // rule: End of a session
 #[test]
 fn replies_to_whole_messages_before_each_cut(rt: HostRuntime) {
-    for end in 0..=SENT.len() {
-        for piece in [1, 7, 1000] {
-            let is_served = is_served_before(&rt, &SENT[..end], piece);
-            assert!(rt; is_served, "{end} bytes, {piece} a call");
-        }
-    }
+    let wrong = [wrong_cut(&rt, 1), wrong_cut(&rt, 7), wrong_cut(&rt, 1000)];
+    assert!(rt; wrong == [None; 3]);
 }
 
 // How a session ends one of whose reads fails after so many; whether the connection gets the replies to what was read
@@ -79,12 +85,8 @@ fn count_reads(rt: &HostRuntime, piece: usize) -> Option<usize> {
 // The last read finds the end of the input.
 #[test]
 fn replies_to_whole_messages_before_each_failed_read(rt: HostRuntime) {
-    for (piece, reads) in [(1, 128), (1000, 2)] {
-        assert!(rt;
-            count_reads(&rt, piece) == Some(reads),
-            "{piece} bytes a read"
-        );
-    }
+    let reads = (count_reads(&rt, 1), count_reads(&rt, 1000));
+    assert!(rt; reads == (Some(128), Some(2)));
 }
 
 // How a session ends one of whose writes fails after so many; how many bytes the connection gets, if they are a first part
@@ -119,12 +121,8 @@ fn count_writes(rt: &HostRuntime, piece: usize) -> Option<usize> {
 // A download has a write for its head and one for its bytes.
 #[test]
 fn writes_a_first_part_of_the_replies_before_each_failed_write(rt: HostRuntime) {
-    for (piece, writes) in [(1, 215), (1000, 4)] {
-        assert!(rt;
-            count_writes(&rt, piece) == Some(writes),
-            "{piece} bytes a write"
-        );
-    }
+    let writes = (count_writes(&rt, 1), count_writes(&rt, 1000));
+    assert!(rt; writes == (Some(215), Some(4)));
 }
 
 const DOWNLOAD: &[u8] = b"GET /p/letters.bin HTTP/1.1\r\n\r\nGET / HTTP/1.1\r\n\r\n";

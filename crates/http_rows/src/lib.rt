@@ -16,11 +16,7 @@ mod folder_tests;
 #[cfg(test)]
 mod lines;
 #[cfg(test)]
-mod package_tests;
-#[cfg(test)]
 mod queue_tests;
-#[cfg(test)]
-mod reply_tests;
 #[cfg(test)]
 mod scripted;
 #[cfg(test)]

@@ -188,6 +188,27 @@ const TABLES: [(&str, &[usize]); 4] = [
     (LIMITS, &[1000]),
 ];
 
+// The first row that isn't so over pieces of its table; empty if there is none.
+fn wrong_in(rt: &HostRuntime, rows: &'static str, pieces: &[usize]) -> &'static str {
+    for piece in pieces {
+        let wrong = wrong_row(rt, rows, *piece);
+        if !wrong.is_empty() {
+            return wrong;
+        }
+    }
+    ""
+}
+
+fn wrong_session(rt: &HostRuntime) -> &'static str {
+    for (rows, pieces) in TABLES {
+        let wrong = wrong_in(rt, rows, pieces);
+        if !wrong.is_empty() {
+            return wrong;
+        }
+    }
+    ""
+}
+
 // rule: Body of a request
 // rule: End of a connection
 // rule: End of a session
@@ -206,10 +227,6 @@ const TABLES: [(&str, &[usize]); 4] = [
 // rule: Use of a message
 #[test]
 fn serves_sessions_however_they_are_cut(rt: HostRuntime) {
-    for (rows, pieces) in TABLES {
-        for piece in pieces {
-            let wrong = wrong_row(&rt, rows, *piece);
-            assert!(rt; wrong.is_empty(), "{wrong}, {piece} a call");
-        }
-    }
+    let wrong = wrong_session(&rt);
+    assert!(rt; wrong.is_empty(), "{wrong}");
 }
