@@ -6,7 +6,7 @@ ghost use Rattle.payload_graph.specs.Net.{net_among};
 ghost use Rattle.payload_graph.specs.Places.{IsWithin};
 ghost use Rattle.catalogue.specs.Lookups.{releases_at};
 
-use crate::outcomes::{push_key, push_outcome, push_written};
+use crate::outcomes::push_outcome;
 use catalogue::{Catalogue, Version};
 use cohorts::Pin;
 use fixtures::{
@@ -78,14 +78,12 @@ fn push_certificate(
     words: &mut String,
     catalogue: &Catalogue,
     graph: &Graph,
-    asked: &str,
     certificate: &str,
 ) -> Option<()>
     requires { net_among catalogue.now graph.now.key ≡ Some graph.now }
 {
     match graph.key().pin {
-        Pin::Any if asked == "reads" => push_outcome(alloc, words, catalogue, graph, certificate),
-        Pin::Any => push_written(alloc, words, catalogue, graph, certificate),
+        Pin::Any => push_outcome(alloc, words, catalogue, graph, certificate),
         _ => None,
     }
 }
@@ -105,7 +103,7 @@ fn push_of_graph(
     match asked {
         "from" => push_from(words, graph).ok(),
         "into" => push_into(words, graph).ok(),
-        "reads" | "rewrites" => push_certificate(alloc, words, catalogue, graph, asked, more),
+        "reads" => push_certificate(alloc, words, catalogue, graph, more),
         _ => push_solved(alloc, words, catalogue, key, graph, more),
     }
 }
@@ -157,13 +155,12 @@ fn push_asked(
         }
         "by the rule" | "slowly" => push_ruled(alloc, words, catalogue, key, asked),
         "both" if key.app < catalogue.apps().len() => push_resolved(alloc, words, catalogue, key),
-        "names" => push_key(alloc, words, catalogue, more),
         _ => push_of_graph(alloc, words, catalogue, key, asked, more),
     }
 }
 
-/// The reply to what is asked of a track.
-pub(crate) fn words_of(
+// The reply to what is asked of a track.
+fn words_of(
     alloc: Global,
     catalogue: &Catalogue,
     key: &str,

@@ -2,9 +2,7 @@ use crate::descriptions::print_description;
 use crate::findings::print_findings;
 use crate::shelf::RowFolder;
 use fixtures::{is_line, two_parts};
-use package_files::{Finding, Mismatch};
 use std::alloc::Global;
-use values::Text;
 
 // What is found in the files of a row.
 fn print_found(alloc: Global, files: &'static str) -> Option<String> {
@@ -70,19 +68,4 @@ fn describes_a_file_as_a_profile_does(rt: HostRuntime) {
     for row in DESCRIPTIONS.lines() {
         assert!(rt; is_described(rt.alloc(), row), "{row}");
     }
-}
-
-// The finding of a file that is missing.
-fn print_missing(alloc: Global, name: &str) -> Option<String> {
-    let name = Text::copy_of(alloc, name).ok()?;
-    let mismatch = Mismatch::Missing;
-    let finding = Finding { name, mismatch };
-    format!(in alloc; "{finding}").ok()
-}
-
-// rule: Printed finding
-#[test]
-fn escapes_the_control_characters_of_a_name(rt: HostRuntime) {
-    let line = print_missing(rt.alloc(), "a\n\u{7f}\u{9b}b");
-    assert!(rt; is_line(line, "a%0A%7F%C2%9Bb: missing"));
 }

@@ -1,6 +1,6 @@
 //! Worked rows of catalogues: versions, and what is found by its name; what is permitted on the tracks of small
 //! catalogues, their graphs, first payloads and tables of prices, a certificate read to other tracks, and the files of
-//! packages; and reading, writing and applying without memory.
+//! packages; and applying and copying without memory.
 //!
 //! It has tests alone, so that the libraries below are proved once. Catalogues are made of scripts, and payloads are
 //! words. What profiles and scripts are read as, what they are rejected for and how a catalogue is written is in rows of
@@ -32,8 +32,6 @@ mod out_of_memory_tests;
 mod outcomes;
 #[cfg(test)]
 mod places;
-#[cfg(test)]
-mod profile_out_of_memory_tests;
 #[cfg(test)]
 mod shelf;
 #[cfg(test)]

@@ -1,6 +1,6 @@
 // An app with as many differentials as there may be.
 
-use crate::profile_out_of_memory_tests::catalogue_of;
+use crate::out_of_memory_tests::catalogue_of;
 use catalogue::{Catalogue, Fault};
 use profile_toml::read_script;
 use std::alloc::{AllocError, Global};

@@ -1,65 +1,121 @@
-// Calls that run out of memory, and that the same call with memory succeeds.
+// Calls that run out of memory: what is then as before, and that the same call with memory succeeds.
 //
 // In the gate no allocation fails. `make allocations` lets each one of a test fail in turn, so of two tries one fails at most.
 
-use crate::asks::words_of;
-use fixtures::{DEMO, catalogue_of_script, keep, key_of};
-use payload_graph::Graph;
-use solver::solve;
+use catalogue::{Batch, Catalogue, Refused};
+use fixtures::catalogue_of_profile;
+use profile_toml::read_profile;
 use std::alloc::Global;
+use values::ReadError;
 
 // Whether one of two tries came to what it should, and none to anything else; `None` is a try that ran out of memory.
 fn are_right(first: Option<bool>, second: Option<bool>) -> bool {
     first != Some(false) && second != Some(false) && (first.is_some() || second.is_some())
 }
 
-// Whether the graph of a track has its payloads, and its table its prices.
-fn solves(alloc: Global) -> Option<bool> {
-    let catalogue = catalogue_of_script(alloc, DEMO, "")?;
-    let graph = match Graph::of_track(alloc, catalogue, &key_of("stable target no")) {
-        Ok(Some(graph)) => keep(alloc, graph)?,
-        Ok(None) => return Some(false),
-        Err(_) => return None,
-    };
-    let table = keep(alloc, solve(alloc, graph).ok()?)?;
-    let copy = keep(alloc, table.copy().ok()?)?;
-    Some(table.rows().len() == 4 && copy.rows() == table.rows() && copy.key() == table.key())
-}
+// An app of two releases and a differential.
+const WRITTEN: &str = r#"schema = 2
 
-// rule: Graph of a track
-// rule: Certified table
-#[test]
-fn graph_of_track_solve_and_certified_copy_without_memory(rt: HostRuntime) {
-    assert!(rt; are_right(solves(rt.alloc()), solves(rt.alloc())));
-}
+[[app]]
+default = "stable"
+id = "demo"
 
-// Whether a certificate is what it should be to its track, for which ` no track` is a lack of memory.
-fn is_said(alloc: Global, asked: &str, wanted: &str) -> Option<bool> {
-    let catalogue = catalogue_of_script(alloc, DEMO, "")?;
-    let words = words_of(alloc, catalogue, "stable target no", asked, "")?;
-    match words.as_str() {
-        " no track" => None,
-        words => Some(words == wanted),
+[[app.cohort]]
+name = "stable"
+target = "2.0"
+
+[[app.diff]]
+from = "1.0"
+name = "demo-1.0-2.0.bin"
+sha256 = "1212121212121212121212121212121212121212121212121212121212121212"
+size = 300
+to = "2.0"
+
+[[app.release]]
+audience = ["stable"]
+name = "demo-1.0.bin"
+sha256 = "1111111111111111111111111111111111111111111111111111111111111111"
+size = 1000
+version = "1.0"
+
+[[app.release]]
+floor = "1.0"
+name = "demo-2.0.bin"
+sha256 = "2222222222222222222222222222222222222222222222222222222222222222"
+size = 1200
+version = "2.0"
+
+[[mirror]]
+budget = 1000
+codebase = "http://m0.example/p/"
+name = "m0"
+"#;
+
+fn batch_of(alloc: Global, profile: &str) -> Option<Batch> {
+    match read_profile(alloc, profile.as_bytes()) {
+        Ok((batch, _mirrors)) => Some(batch),
+        Err(_) => None,
     }
 }
 
-// rule: Reading of a certificate
-#[test]
-fn read_prices_without_memory(rt: HostRuntime) {
-    let first = is_said(rt.alloc(), "reads", "certified");
-    assert!(rt; are_right(first, is_said(rt.alloc(), "reads", "certified")));
+fn applied(alloc: Global, batch: &Batch) -> Option<Catalogue> {
+    Catalogue::empty(alloc).applied(batch).ok()
 }
 
-// rule: Bytes of a certificate
-#[test]
-fn write_prices_without_memory(rt: HostRuntime) {
-    let first = is_said(rt.alloc(), "rewrites", "the same");
-    assert!(rt; are_right(first, is_said(rt.alloc(), "rewrites", "the same")));
+/// The catalogue of a profile, `None` if that is rejected.
+pub(crate) fn catalogue_of(alloc: Global, profile: &str) -> Option<Catalogue> {
+    let batch = batch_of(alloc, profile)?;
+    applied(alloc, &batch)
 }
 
-// rule: Key of a certificate
+// Whether a catalogue has the app with its releases and its differential.
+fn is_made(catalogue: &Catalogue) -> bool {
+    catalogue.apps().len() == 1
+        && catalogue.releases(0).len() == 2
+        && catalogue.diffs(0).len() == 1
+        && catalogue.package("demo-2.0.bin").is_some()
+}
+
+// Applies a batch, and again if memory ran out and nothing was changed.
+fn apply_again(catalogue: &mut Catalogue, batch: &Batch) -> Result<(), ReadError<Refused>> {
+    match catalogue.apply(batch) {
+        Err(ReadError::Memory) if catalogue.apps().is_empty() => catalogue.apply(batch),
+        applied => applied,
+    }
+}
+
+fn applies(alloc: Global) -> Option<bool> {
+    let batch = batch_of(alloc, WRITTEN)?;
+    let mut catalogue = Catalogue::empty(alloc);
+    let applied = apply_again(&mut catalogue, &batch);
+    Some(applied.is_ok() && is_made(&catalogue))
+}
+
+// rule: Batch
 #[test]
-fn read_key_without_memory(rt: HostRuntime) {
-    let first = is_said(rt.alloc(), "names", "0 0 target no");
-    assert!(rt; are_right(first, is_said(rt.alloc(), "names", "0 0 target no")));
+fn apply_without_memory(rt: HostRuntime) {
+    assert!(rt; are_right(applies(rt.alloc()), applies(rt.alloc())));
+}
+
+// Whether a catalogue's copy is like it.
+fn copies_catalogue(alloc: Global) -> Option<bool> {
+    let catalogue = catalogue_of_profile(alloc, WRITTEN)?;
+    let copy = catalogue.copy().ok()?;
+    Some(is_made(&copy) && is_made(catalogue))
+}
+
+#[test]
+fn catalogue_copy_without_memory(rt: HostRuntime) {
+    assert!(rt; are_right(copies_catalogue(rt.alloc()), copies_catalogue(rt.alloc())));
+}
+
+// Whether the copy of a batch makes the catalogue that the batch makes.
+fn copies_batch(alloc: Global) -> Option<bool> {
+    let copy = batch_of(alloc, WRITTEN)?.copy().ok()?;
+    Some(is_made(&applied(alloc, &copy)?))
+}
+
+#[test]
+fn batch_copy_without_memory(rt: HostRuntime) {
+    assert!(rt; are_right(copies_batch(rt.alloc()), copies_batch(rt.alloc())));
 }

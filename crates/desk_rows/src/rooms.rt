@@ -3,7 +3,6 @@
 ghost use Rattle.std.specs.Prelude.{◌≡◌, All, IfOk, IfSome, map};
 ghost use Rattle.desk_rows.specs.NewScripts.{IsNewScript};
 
-use crate::turns::{Part, Turns};
 use http_desks::{Desk, Packages};
 use http_memory::{Peer, Script, Seat};
 use http_ports::{Port, Terms, WatchEach};
@@ -14,7 +13,6 @@ use std::fs::File;
 use std::io;
 use std::io::ErrorKind;
 use std::sync::Wait;
-use std::sync::atomic::{AtomicBool, AtomicU64};
 use std::time::Clock;
 use systems::{OpenError, System};
 
@@ -42,25 +40,13 @@ impl Packages for NoFiles {
 pub(crate) struct Rooms<'a, R> {
     /// The runtime.
     pub(crate) rt: &'a R,
-    /// How far the ports have come.
-    pub(crate) stage: AtomicU64,
 }
 
-// The part of a port, as its terms say: the operator's, the one of one connection, or another.
-fn part_of(terms: &Terms) -> Part {
-    match (terms.listener, terms.limit) {
-        (1, _) => Part::Publishes,
-        (_, 1) => Part::Asks,
-        _ => Part::Alone,
-    }
-}
-
-// What the peers of a port send, with a `|` between two.
+// What the peers of a port send, with a `|` between two: of the one of one connection, and of another one.
 fn sent_at(terms: &Terms) -> &'static str {
-    match part_of(terms) {
-        Part::Asks => crate::served_tests::ASKS,
-        Part::Publishes => crate::served_tests::PUBLISHES,
-        Part::Alone => crate::served_tests::OTHERS,
+    match terms.limit {
+        1 => crate::served_tests::ASKS,
+        _ => crate::served_tests::OTHERS,
     }
 }
 
@@ -159,13 +145,6 @@ impl<R: Clock + Wait + AllocGlobal> System<Script> for Rooms<'_, R> {
         desk: &mut D,
         watch: &V,
     ) -> u64 {
-        let turns = Turns {
-            clock: self.rt,
-            stage: &self.stage,
-            part: part_of(&port.terms()),
-            has_sent: AtomicBool::new(false),
-            watch,
-        };
-        serve_port(self.rt, port, &NoFiles, &turns, room, desk)
+        serve_port(self.rt, port, &NoFiles, watch, room, desk)
     }
 }

@@ -1,7 +1,7 @@
 // Every byte of a server's connections, over ports in memory. Its two workers wait for each other and for the test.
 
+use crate::meetings::Meeting;
 use crate::rooms::Rooms;
-use crate::together::Meeting;
 use http_memory::{Peer, Script};
 use kept_records::Unkept;
 use omaha_server::{Place, ServedPort, ServedPorts, serve};
@@ -9,7 +9,6 @@ use service_desks::{KeptService, Service, builtin_service};
 use std::alloc::{AllocError, Global};
 use std::io;
 use std::sync::Wait;
-use std::sync::atomic::AtomicU64;
 use std::thread::{Threads, join};
 use std::time::Clock;
 use values::Text;
@@ -21,54 +20,39 @@ POST /service/update2/json HTTP/1.1\r\nContent-Length: 227\r\n\r\n\
 POST /service/update2/json HTTP/1.1\r\nContent-Length: 227\r\n\r\n\
 {\"request\":{\"app\":[{\"appid\":\"mini\",\"cohort\":\"stable:0\",\"packages\":{\"package\":[{\"fp\":\"1.ba7816bf8f01cfea414140de5dae2223b00361a396177a9cb410ff61f20015ad\"}]},\"updatecheck\":{},\"version\":\"1.0\"}],\"protocol\":\"3.1\",\"sessionid\":\"abc\"}}";
 
-/// What the operator sends: a script that sets the target to 1.0, and the same once more.
-pub(crate) const PUBLISHES: &str = "\
-POST /operate HTTP/1.1\r\nContent-Length: 100\r\n\r\n\
-schema = 1\nbase = 1\nedit = [{ do = \"set_target\", app = \"mini\", cohort = \"stable\", target = \"1.0\" }]\n\
-POST /operate HTTP/1.1\r\nContent-Length: 100\r\n\r\n\
-schema = 1\nbase = 1\nedit = [{ do = \"set_target\", app = \"mini\", cohort = \"stable\", target = \"1.0\" }]\n";
-
 /// What the two clients of the second worker send, of which the first one goes in the middle of a message.
 pub(crate) const OTHERS: &str = "\
 POST /service/update2/json HTTP/1.1\r\nContent-Length: 100\r\n\r\n{\"request\"|\
 GET /p/none.bin HTTP/1.1\r\n\r\n";
 
-// What the first client gets: the release 2.0, and after the publish nothing more.
+// What the first client gets: the release 2.0, twice.
 const OFFERED: &str = "\
 HTTP/1.1 200 OK\r\nContent-Type: application/json\r\nContent-Length: 499\r\n\r\n\
 )]}'\n{\"response\":{\"app\":[{\"appid\":\"mini\",\"cohort\":\"stable:0\",\"cohortname\":\"stable\",\"status\":\"ok\",\"updatecheck\":{\"manifest\":{\"packages\":{\"package\":[{\"fp\":\"1.248d6a61d20638b8e5c026930c3e6039a33ce45964ff2167f6ecedd419db06c1\",\"hash_sha256\":\"248d6a61d20638b8e5c026930c3e6039a33ce45964ff2167f6ecedd419db06c1\",\"name\":\"mini-2.0.bin\",\"size\":56}]},\"version\":\"2.0\"},\"status\":\"ok\",\"urls\":{\"url\":[{\"codebase\":\"http://m0.example/p/\"}]}}}],\"daystart\":{\"elapsed_days\":6940,\"elapsed_seconds\":3661},\"protocol\":\"3.1\"}}\
-HTTP/1.1 200 OK\r\nContent-Type: application/json\r\nContent-Length: 209\r\n\r\n\
-)]}'\n{\"response\":{\"app\":[{\"appid\":\"mini\",\"cohort\":\"stable:0\",\"cohortname\":\"stable\",\"status\":\"ok\",\"updatecheck\":{\"status\":\"noupdate\"}}],\"daystart\":{\"elapsed_days\":6940,\"elapsed_seconds\":3661},\"protocol\":\"3.1\"}}";
-
-// What the operator gets.
-const PUBLISHED: &str = "\
-HTTP/1.1 200 OK\r\nContent-Type: text/plain\r\nContent-Length: 10\r\n\r\n\
-edition 2\n\
-HTTP/1.1 409 Conflict\r\nContent-Type: text/plain\r\nContent-Length: 8\r\n\r\n\
-stale 2\n";
+HTTP/1.1 200 OK\r\nContent-Type: application/json\r\nContent-Length: 499\r\n\r\n\
+)]}'\n{\"response\":{\"app\":[{\"appid\":\"mini\",\"cohort\":\"stable:0\",\"cohortname\":\"stable\",\"status\":\"ok\",\"updatecheck\":{\"manifest\":{\"packages\":{\"package\":[{\"fp\":\"1.248d6a61d20638b8e5c026930c3e6039a33ce45964ff2167f6ecedd419db06c1\",\"hash_sha256\":\"248d6a61d20638b8e5c026930c3e6039a33ce45964ff2167f6ecedd419db06c1\",\"name\":\"mini-2.0.bin\",\"size\":56}]},\"version\":\"2.0\"},\"status\":\"ok\",\"urls\":{\"url\":[{\"codebase\":\"http://m0.example/p/\"}]}}}],\"daystart\":{\"elapsed_days\":6940,\"elapsed_seconds\":3661},\"protocol\":\"3.1\"}}";
 
 // What the other clients get.
 const MISSING: &str = "\
 |\
 HTTP/1.1 404 Not Found\r\nContent-Length: 0\r\n\r\n";
 
-fn pair_of(alloc: Global, first: &str, second: &str) -> Result<(Text, Text), AllocError> {
-    let first = Text::copy_of(alloc, first)?;
-    let second = Text::copy_of(alloc, second)?;
-    Ok((first, second))
+fn strings_of(alloc: Global) -> Result<(Text, Text, Text), AllocError> {
+    let address = Text::copy_of(alloc, "clients")?;
+    let packages = Text::copy_of(alloc, ".")?;
+    Ok((address, packages, Text::copy_of(alloc, "0.2.0")?))
 }
 
-// Two workers, which serve one connection and two, and an operator with one.
+// Two workers, which serve one connection and two.
 fn place_of(alloc: Global) -> Result<Place, AllocError> {
-    let (address, operator) = pair_of(alloc, "clients", "operator")?;
-    let (packages, version) = pair_of(alloc, ".", "0.2.0")?;
+    let (address, packages, version) = strings_of(alloc)?;
     Ok(Place {
         address,
-        operator: Some(operator),
+        operator: None,
         packages,
         workers: 2,
         sessions: Some(3),
-        edits: Some(1),
+        edits: None,
         log: None,
         seconds: 1,
         idle: 1,
@@ -97,8 +81,7 @@ fn have_got(served: &ServedPort<Script>, got: &str) -> Option<bool> {
 fn are_served(ports: &ServedPorts<Script>) -> Option<bool> {
     let first = have_got(ports.clients.get(0)?, OFFERED)?;
     let second = have_got(ports.clients.get(1)?, MISSING)?;
-    let operator = have_got(ports.operator.as_ref()?, PUBLISHED)?;
-    Some(first && second && operator && ports.clients.len() == 2)
+    Some(first && second && ports.clients.len() == 2)
 }
 
 // Whether a server whose gate is a meeting sends them that, and ends with the total of its one mirror.
@@ -108,17 +91,14 @@ fn is_served<R: Clock + Threads + Wait + Sync + AllocGlobal>(
     place: &Place,
     meeting: &Meeting<'_, R>,
 ) -> bool {
-    let rooms = Rooms {
-        rt,
-        stage: AtomicU64::new(0),
-    };
+    let rooms = Rooms { rt };
     let kept = KeptService {
         service,
         records: Unkept::new(),
     };
     let mut out = Vec::new(rt.alloc());
     let served = serve(rt, &rooms, kept, place, meeting, &mut out, &mut io::sink());
-    let is_told = out.as_slice() == b"ready\nm0 56\n".as_slice();
+    let is_told = out.as_slice() == b"ready\nm0 112\n".as_slice();
     match served {
         Ok(ports) => is_told && are_served(&ports) == Some(true),
         Err(_) => false,
@@ -139,14 +119,13 @@ fn serves<R: Clock + Threads + Wait + Sync + AllocGlobal>(
 // Whether it is so while the test meets the workers.
 fn meets<R: Clock + Threads + Wait + Sync + AllocGlobal>(rt: &R) -> bool {
     let meeting = &Meeting::new(rt);
-    let (is_served, ()) = join(rt, || serves(rt, meeting), || meeting.meet_jobs());
+    let (is_served, ()) = join(rt, || serves(rt, meeting), || meeting.meet_workers());
     is_served == Some(true) && meeting.is_complete()
 }
 
 // rule: Clock of a port
 // rule: Run of a server
 // rule: Sessions of a server
-// rule: Sessions of an operator
 #[test]
 fn workers_begin_at_once_and_each_peer_gets_its_replies_byte_for_byte(rt: HostRuntime) {
     assert!(rt; meets(&rt));

@@ -1,6 +1,6 @@
 //! Rows of requests and replies whose bytes and records were worked out by hand, of a client.
 //!
-//! `out_of_memory_tests` has what a client writes and `replies` what it reads; `walks`, `failing_walks` and
+//! `replies` has what a client reads; `walks`, `failing_walks`, `out_of_memory_tests` and
 //! `update_client_replies` an update client over memory: what its downloads hold, and how far it goes, whatever call of
 //! its link or its installer fails.
 //! It holds tests alone. What a server reads and writes is in rows of the program, and in the laws of `omaha_json`.

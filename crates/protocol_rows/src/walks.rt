@@ -179,6 +179,11 @@ const FAILED_CALLS: &str =
 1.0 a s | 1 offer t 2.0 b- abc;1 offer t 3.0 c- abcde abcd;1 check noupdate | abc abcd | - - 2 = U5 Install, 2.0 b-0 t, 0, u/full.bin d/diff.bin , full 2.0 b-0 3;
 1.0 a s | 1 offer t 2.0 b- abc;1 offer t 3.0 c- abcde abcd;1 check noupdate | abc abcd | - - 3 = U5 Install, 2.0 b-0 t, 0, u/full.bin d/diff.bin , full 2.0 b-0 3;"#;
 
+// As many steps as a walk may make, and one more.
+const LONG: &str =
+    "1.0 a s | 1024 offer t 2.0 b- abc;1 check noupdate | abc |  = 1024 steps 3072 bytes, 2.0 b-0 t,..
+1.0 a s | 1025 offer t 2.0 b- abc;1 check noupdate | abc |  = U7 TooManySteps, 2.0 b-1 t,..";
+
 // rule: Address of a download
 // rule: Client after a step
 // rule: Download that is installed
@@ -186,23 +191,12 @@ const FAILED_CALLS: &str =
 // rule: Reply that a client hears
 // rule: Request of a client
 // rule: Steps of a walk
+// rule: Walk of a client
 #[test]
 fn walks_as_far_as_it_can(rt: HostRuntime) {
-    for rows in [WALKS, PINNED, FAULTS, FAILED_CALLS] {
+    for rows in [WALKS, PINNED, FAULTS, FAILED_CALLS, LONG] {
         for row in rows.lines() {
             assert!(rt; is_so(rt.alloc(), row) == Some(true), "{row}");
         }
-    }
-}
-
-const LONG: &str =
-    "1.0 a s | 1024 offer t 2.0 b- abc;1 check noupdate | abc |  = 1024 steps 3072 bytes, 2.0 b-0 t,..
-1.0 a s | 1025 offer t 2.0 b- abc;1 check noupdate | abc |  = U7 TooManySteps, 2.0 b-1 t,..";
-
-// rule: Walk of a client
-#[test]
-fn makes_at_most_1024_steps(rt: HostRuntime) {
-    for row in LONG.lines() {
-        assert!(rt; is_so(rt.alloc(), row) == Some(true), "{row}");
     }
 }

@@ -3,59 +3,65 @@
 ghost use Rattle.std.specs.Prelude.{◌≡◌, ⊤, IfOk, true, vec_len};
 ghost use Rattle.profile_toml.specs.Laws.{AreMirrors};
 
-use crate::answers::print_answer;
 use fixtures::{CHAINED, has_bounds, mirrors_of_profile, open_profile};
-use http_desks::{Desk, Off};
-use kept_records::Records;
+use http_desks::{Answer, Desk, Off};
+use kept_records::{Records, Unkept};
 use mirror_ledger::{BudgetJob, Budgets, Till, TillJob, run_with_tills};
 use par_tables::Free;
 use publisher::Press;
 use service_desks::Operator;
 use std::alloc::{AllocError, Global};
+use std::str;
 use std::sync::Wait;
 use std::thread::Threads;
 
-// What a body gets. If memory ran out, nothing is to be published, and the body is sent again; if it was kept all the
-// same, its edition is due, and shown then, and that it is stale means that it is published.
-fn send_to<R: Threads + Wait + AllocGlobal, B: Budgets, K: Records>(
+// Whether a reply has this part; `None` if memory ran out.
+fn has_part(answer: &Result<Answer, Off>, part: &str) -> Option<bool> {
+    match answer {
+        Ok(answer) => Some(str::from_utf8(&answer.body).unwrap_or("").contains(part)),
+        Err(Off::Memory) => None,
+        Err(Off::Closed) => Some(false),
+    }
+}
+
+// Whether a body gets a reply with this part. If memory ran out, nothing is to be published, and the body is sent again;
+// if it was kept all the same, its edition is due, and shown then, and that it is stale means that it is published.
+fn is_sent_to<R: Threads + Wait + AllocGlobal, B: Budgets, K: Records>(
     operator: &mut Operator<'_, '_, '_, '_, '_, R, B, K>,
     body: &[u8],
-) -> Option<String>
+    part: &str,
+) -> bool
     ensures same_press { operator.new.press.ghost_name ≡ operator.old.press.ghost_name }
     ensures same_budgets { operator.new.budgets.ghost_name ≡ operator.old.budgets.ghost_name }
     ensures same_records { operator.new.records.ghost_name ≡ operator.old.records.ghost_name }
     ensures same_due { operator.new.due.ghost_name ≡ operator.old.due.ghost_name }
 {
-    let alloc = operator.rt.alloc();
     let before = operator.press.edition().number();
-    match operator.answer(body, 0) {
-        Err(Off::Memory) if operator.press.edition().number() == before => {
+    match has_part(&operator.answer(body, 0), part) {
+        None if operator.press.edition().number() == before => {
             let due = operator.due.is_some();
-            let again = print_answer(alloc, &operator.answer(body, 0))?;
-            let number = operator.press.edition().number();
-            if due && number > before {
-                format!(in alloc; "200 edition {number}\n").ok()
-            } else {
-                Some(again)
-            }
+            let again = has_part(&operator.answer(body, 0), part);
+            let is_shown = due && operator.press.edition().number() > before;
+            is_shown || again == Some(true)
         }
-        answer => print_answer(alloc, &answer),
+        first => first == Some(true),
     }
 }
 
 // The same, of a desk over a press and budgets that may be raised.
-fn send<R: Threads + Wait + AllocGlobal, B: Budgets, K: Records>(
+fn is_sent<R: Threads + Wait + AllocGlobal, B: Budgets, K: Records>(
     rt: &R,
     press: &mut Press,
     records: &mut K,
     budgets: &mut B,
-    body: &[u8],
-) -> Option<String>
+    row: (&str, &str),
+) -> bool
     requires mirrors { AreMirrors (B.present budgets.old) }
     requires rises { B.rises budgets.old ≡ true }
     ensures mirrors { AreMirrors (B.present budgets.new) }
     ensures rises { B.rises budgets.new ≡ true }
 {
+    let (body, part) = row;
     let mut due = None;
     let mut operator = Operator {
         rt,
@@ -65,31 +71,42 @@ fn send<R: Threads + Wait + AllocGlobal, B: Budgets, K: Records>(
         due: &mut due,
         workers: 2,
     };
-    send_to(&mut operator, body)
+    is_sent_to(&mut operator, body.as_bytes(), part)
 }
 
-// Bodies that are sent one after the other.
+// A script, a raise and a dump, each with a part of its reply.
+const OPERATED: [(&str, &str); 3] = [
+    (
+        r#"schema = 1
+base = 1
+edit = [{ do = "set_withdrawn", app = "demo", version = "3.0", on = true }]"#,
+        "edition 2\n",
+    ),
+    ("raise m0 1000001", "raised m0 1000001\n"),
+    ("dump", "budget = 1000001\n"),
+];
+
+// They are sent one after the other.
 struct Sending<'a, R, K> {
     rt: &'a R,
     press: Press,
     records: K,
-    bodies: &'a [Vec<u8>],
 }
 
 impl<R: Threads + Wait + AllocGlobal, K: Records> BudgetJob for Sending<'_, R, K> {
-    type End = Option<Vec<String>>;
+    type End = bool;
 
     ghost raises = { λ _. true };
 
     ghost comes_to = { λ _ _ _ _. ⊤ };
 
-    fn work<B: Budgets>(&mut self, budgets: &mut B) -> Option<Vec<String>> {
-        let mut replies = Vec::new(self.rt.alloc());
-        for body in self.bodies {
-            let reply = send(self.rt, &mut self.press, &mut self.records, budgets, body)?;
-            replies.push(reply).ok()?;
+    fn work<B: Budgets>(&mut self, budgets: &mut B) -> bool {
+        let mut are_sent = true;
+        for row in OPERATED {
+            let is_sent = is_sent(self.rt, &mut self.press, &mut self.records, budgets, row);
+            are_sent = are_sent && is_sent;
         }
-        Some(replies)
+        are_sent
     }
 }
 
@@ -115,86 +132,50 @@ fn one_idle(alloc: Global) -> Result<Vec<Idle>, AllocError>
     Ok(jobs)
 }
 
-// Sends the bodies, beside a worker that asks for nothing.
-fn send_bodies<R: Threads + Wait + Sync + AllocGlobal, K: Records>(
+// Whether each gets its reply, beside a worker that asks for nothing; `None` if memory ran out before.
+fn are_sent<R: Threads + Wait + Sync + AllocGlobal, K: Records>(
     rt: &R,
     sending: &mut Sending<'_, R, K>,
-) -> Option<Vec<String>> {
+) -> Option<bool> {
     let mirrors = mirrors_of_profile(rt.alloc(), CHAINED.as_bytes())?;
     if !has_bounds(&mirrors) {
         return None;
     }
     let jobs = one_idle(rt.alloc()).ok()?;
     match run_with_tills(rt, rt.alloc(), mirrors, &Free, jobs, sending) {
-        Ok(ran) => ran.own.flatten(),
+        Ok(ran) => ran.own,
         Err(_) => None,
     }
 }
 
-// What bodies get that are sent to the desk of a press one after the other, with the press and the records.
-fn replies_of<R: Threads + Wait + Sync + AllocGlobal, K: Records>(
+// The same of the desk of a press, which is given back.
+fn operates_by<R: Threads + Wait + Sync + AllocGlobal>(
     rt: &R,
     press: Press,
-    records: K,
-    bodies: &[Vec<u8>],
-) -> (Press, K, Option<Vec<String>>) {
+) -> (Press, Option<bool>) {
     let mut sending = Sending {
         rt,
         press,
-        records,
-        bodies,
+        records: Unkept::new(),
     };
-    let replies = send_bodies(rt, &mut sending);
+    let are_sent = are_sent(rt, &mut sending);
     let Sending {
         rt: _,
         press,
-        records,
-        bodies: _,
+        records: _,
     } = sending;
-    (press, records, replies)
+    (press, are_sent)
 }
 
-/// What bodies get that are sent to the desk of `CHAINED` one after the other, and the records.
-pub(crate) fn replies_to<R: Threads + Wait + Sync + AllocGlobal, K: Records>(
-    rt: &R,
-    records: K,
-    bodies: &[Vec<u8>],
-) -> (K, Option<Vec<String>>) {
+/// Whether an operator publishes a script, raises a budget, and dumps the profile, each at once or again; `None` if memory
+/// ran out before.
+pub(crate) fn operates<R: Threads + Wait + Sync + AllocGlobal>(rt: &R) -> Option<bool> {
     match open_profile(rt, rt.alloc(), CHAINED, 1) {
         Ok((press, _views)) => {
-            let (press, records, replies) = replies_of(rt, press, records, bodies);
+            let (press, are_sent) = operates_by(rt, press);
             press.end(rt);
-            (records, replies)
+            are_sent
         }
-        Err(_) => (records, None),
+        Err(_) => None,
     }
-}
-
-/// The bodies of rows, each of a body and what it gets, with ` = ` between; `~` is a line feed.
-pub(crate) fn bodies_of(alloc: Global, rows: &str) -> Option<Vec<Vec<u8>>> {
-    let mut bodies = Vec::new(alloc);
-    for row in rows.lines() {
-        let (text, _wanted) = row.rsplit_once(" = ")?;
-        let body = text.replace(alloc, "~", "\n").ok()?;
-        bodies.push(body.into_bytes()).ok()?;
-    }
-    Some(bodies)
-}
-
-/// The first row that doesn't get what it says, `none` if each does.
-pub(crate) fn first_wrong(replies: &[String], rows: &'static str) -> &'static str {
-    for (index, row) in rows.lines().enumerate() {
-        let wanted = match row.rsplit_once(" = ") {
-            Some((_body, wanted)) => wanted,
-            None => "",
-        };
-        let reply = match replies.get(index) {
-            Some(reply) => reply.as_str(),
-            None => "",
-        };
-        if reply.strip_suffix("\n") != Some(wanted) {
-            return row;
-        }
-    }
-    "none"
 }

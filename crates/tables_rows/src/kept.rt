@@ -4,7 +4,7 @@ ghost use Rattle.std.specs.Prelude.{◌≤◌};
 
 use catalogue::Catalogue;
 use editions::Edition;
-use fixtures::{DEMO, catalogue_of_script, empty_edition, keep, next_of_script, script_of};
+use fixtures::{DEMO, catalogue_of_script, empty_edition, keep, next_of_script};
 use par_tables::{Gate, build, tables};
 use price_cert::Certified;
 use std::alloc::Global;
@@ -77,8 +77,8 @@ impl<R: Clock> Gate for Holder<'_, R> {
     }
 }
 
-/// Whether two lists of tables have the same keys and rows.
-pub(crate) fn are_same(left: &[Certified], right: &[Certified]) -> bool {
+// Whether two lists of tables have the same keys and rows.
+fn are_same(left: &[Certified], right: &[Certified]) -> bool {
     if left.len() != right.len() {
         return false;
     }
@@ -92,8 +92,13 @@ pub(crate) fn are_same(left: &[Certified], right: &[Certified]) -> bool {
     true
 }
 
-// Whether so many workers make the list of a catalogue's tables, each with a piece of it.
-fn builds<R: Threads>(rt: &R, alloc: Global, catalogue: &Catalogue, workers: usize) -> Option<bool>
+/// Whether so many workers make the list of a catalogue's tables, each with a piece of it.
+pub(crate) fn builds<R: Threads>(
+    rt: &R,
+    alloc: Global,
+    catalogue: &Catalogue,
+    workers: usize,
+) -> Option<bool>
     requires { (1 ≤ workers) × (workers ≤ 16) }
 {
     let counter = Counter::new();
@@ -124,14 +129,22 @@ const ONE: &str = r#"{ do = "add_app", app = "one", default = "main" },
 { do = "add_release", app = "one", version = "1.0", name = "one-1.0.bin", size = 5, sha256 = "7777777777777777777777777777777777777777777777777777777777777777" },
 { do = "set_target", app = "one", cohort = "main", target = "1.0" }"#;
 
+// The first script, and edits more, whose tables they don't make; `none` if there is none.
+fn wrong_script<R: Threads>(rt: &R, alloc: Global) -> &'static str {
+    for (script, edits) in [(NONE, ""), (NONE, ONE), (DEMO, ""), (DEMO, ONE)] {
+        if builds_by_any(rt, alloc, script, edits) != Some(true) {
+            return script;
+        }
+    }
+    "none"
+}
+
 // rule: Piece of tables
 // rule: Tables of a catalogue
 #[test]
 fn any_number_of_workers_makes_the_same_list(rt: HostRuntime) {
-    assert!(rt; builds_by_any(&rt, rt.alloc(), NONE, "") == Some(true));
-    assert!(rt; builds_by_any(&rt, rt.alloc(), NONE, ONE) == Some(true));
-    assert!(rt; builds_by_any(&rt, rt.alloc(), DEMO, "") == Some(true));
-    assert!(rt; builds_by_any(&rt, rt.alloc(), DEMO, ONE) == Some(true));
+    let wrong = wrong_script(&rt, rt.alloc());
+    assert!(rt; wrong == "none", "{wrong}");
 }
 
 // Whether two workers make the list of a catalogue's tables at once.
@@ -205,48 +218,24 @@ const ROWS: &str = r#"|0 5
 { do = "add_app", app = "two", default = "main" }|0 5
 { do = "add_app", app = "two", default = "main" }, { do = "add_release", app = "two", version = "1.0", name = "two-1.0.bin", size = 5, sha256 = "8888888888888888888888888888888888888888888888888888888888888888" }, { do = "set_target", app = "two", cohort = "main", target = "1.0", held = "1.0" }|2 7"#;
 
+// The first row that isn't as it says; `none` if there is none.
+fn wrong_row<R: Threads>(rt: &R, alloc: Global) -> &'static str {
+    for row in ROWS.lines() {
+        if is_kept(rt, alloc, row) != Some(true) {
+            return row;
+        }
+    }
+    "none"
+}
+
 // rule: Edit of releases or differentials
 // rule: Kept tables
 // rule: Source of a graph
+// rule: Tables of an edition
 // rule: Tables of marked cohorts
 // rule: Tracks that a batch may change
 #[test]
 fn makes_only_the_tables_whose_graphs_may_change(rt: HostRuntime) {
-    for row in ROWS.lines() {
-        assert!(rt; is_kept(&rt, rt.alloc(), row) == Some(true), "{row}");
-    }
-}
-
-// Edits of the apps of a seed.
-const EDITS: [&str; 6] = [
-    r#"{ do = "set_stone", app = "demo", version = "1.2", on = true }"#,
-    r#"{ do = "set_withdrawn", app = "demo", version = "2.1", on = true }"#,
-    r#"{ do = "set_share", app = "one", cohort = "main", share = 3 }"#,
-    r#"{ do = "set_rollback", app = "one", cohort = "main", on = true }"#,
-    r#"{ do = "set_floor", app = "demo", version = "2.3", floor = "1.2" }"#,
-    r#"{ do = "set_withdrawn", app = "demo", version = "2.1", on = false }"#,
-];
-
-// Whether an edition of a seed, and each of three after it, has the tables that are made from nothing.
-fn stays<R: Threads>(rt: &R, alloc: Global, seed: u64) -> Option<bool> {
-    let empty = empty_edition(alloc)?;
-    let (first, _) = next_of(rt, alloc, empty, script_of(alloc, seed)?, "")?;
-    let (mut edition, _) = next_of(rt, alloc, first, NONE, ONE)?;
-    for turn in 0..3u64 {
-        let edits = EDITS[(seed.wrapping_mul(7).wrapping_add(turn) % 6) as usize];
-        let (next, _) = next_of(rt, alloc, edition, NONE, edits)?;
-        edition = next;
-        if is_as_from_nothing(alloc, edition) != Some(true) {
-            return Some(false);
-        }
-    }
-    Some(true)
-}
-
-// rule: Tables of an edition
-#[test]
-fn kept_tables_are_those_made_from_nothing(rt: HostRuntime) {
-    for seed in 0..100u64 {
-        assert!(rt; stays(&rt, rt.alloc(), seed) == Some(true), "{seed}");
-    }
+    let wrong = wrong_row(&rt, rt.alloc());
+    assert!(rt; wrong == "none", "{wrong}");
 }
