@@ -11,8 +11,10 @@ programs, and the most expensive crates of each. Where other work runs beside it
 time. So do several jobs for one check: unless RT_JOBS is set it is the number of processors, by which each check has one
 job. `make test` leaves it to `rt`, and so ends sooner.
 
-Processors differ: one took half of another's time for each check. So it first times a fixed loop, and prints what that
-took beside the sums: divide them by it to compare two machines.
+Processors differ: one took half of another's time for each check. So it first runs `rt selftest`, by which the toolchain
+proves and builds an example of its own, and prints what that took beside the sums. It is the same work for one toolchain
+on any machine: divide the sums by it to compare two machines. A loop of Python doesn't serve for that: on one machine it
+took 2.9 times as long as on another one, and the proofs 1.4 times.
 
 It exits with its status, whose last line it repeats.
 """
@@ -30,17 +32,17 @@ import time
 TOP = pathlib.Path(__file__).resolve().parent.parent
 TICKS = os.sysconf("SC_CLK_TCK")
 KINDS = ("proof", "tests", "edits", "program")
-STEPS = 20_000_000
 # the last line of a gate that ran
 ENDED = re.compile(r"\d+ passed, \d+ failed")
 
 
-def loop_seconds():
-    """The processor seconds of a fixed loop."""
-    began, total = time.process_time(), 0
-    for step in range(STEPS):
-        total += step * step % 7
-    return time.process_time() - began
+def selftest_seconds():
+    """The processor seconds of the toolchain's own test, by one job a check."""
+    began = os.times()
+    environment = {**os.environ, "RT_JOBS": "1"}
+    subprocess.run(["rt", "selftest"], env=environment, stdin=subprocess.DEVNULL, stdout=subprocess.DEVNULL, check=True)
+    ended = os.times()
+    return ended.children_user + ended.children_system - began.children_user - began.children_system
 
 
 def read(path):
@@ -117,14 +119,15 @@ def main():
     parser.add_argument("--log", default=os.path.join(tempfile.gettempdir(), "gate.log"))
     parser.add_argument("--top", type=int, default=10)
     options = parser.parse_args()
-    loop = loop_seconds()
+    selftest = selftest_seconds()
     began = time.time()
     status, last, sums = run(["rt", "ci", "--anew"], options.log)
     if not ENDED.fullmatch(last):
         # a toolchain without the flag keeps nothing
         status, last, sums = run(["rt", "ci"], options.log)
     print(f"{(time.time() - began) / 60:.1f} minutes on {len(os.sched_getaffinity(0))} processors")
-    print(f"{sum(sums.values()) / 60:8.1f} processor minutes in all, where a loop of {STEPS} steps takes {loop:.1f} s")
+    total = sum(sums.values())
+    print(f"{total / 60:8.1f} processor minutes in all, {total / selftest:.0f} times the {selftest:.0f} s of `rt selftest`")
     for kind in KINDS:
         own = {crate: seconds for (of, crate), seconds in sums.items() if of == kind}
         print(f"{sum(own.values()) / 60:8.1f} {kind} ({len(own)} crates)")
