@@ -116,7 +116,7 @@ fn read_new_name(before: &Cohorts, table: &TableReader<'_>) -> Result<Text, Read
 {
     let name = table.string("name")?;
     if before.has_name(name.as_str()) {
-        return Err(ReadError::Fault(table.invalid_entry("name")?));
+        return table.reject("name");
     }
     Ok(name)
 }

@@ -71,7 +71,7 @@ fn read_verb(schema: Schema, table: &TableReader<'_>) -> Result<Verb, ReadError<
     let name = table.string("do")?;
     match Verb::from_name(schema, name.as_str()) {
         Some(verb) => Ok(verb),
-        None => Err(ReadError::Fault(table.invalid_entry("do")?)),
+        None => table.reject("do"),
     }
 }
 

@@ -1,6 +1,6 @@
 //! The keys of one table.
 
-ghost use Rattle.std.specs.Prelude.{◌≡◌, IfOk, map, option_and_then, option_map};
+ghost use Rattle.std.specs.Prelude.{◌≡◌, Err, IfOk, map, option_and_then, option_map};
 ghost use Rattle.std.specs.List.{list_any};
 ghost use Rattle.std.specs.Str.{bytes_eq};
 ghost use Rattle.values.specs.Reading.{Reads};
@@ -73,6 +73,16 @@ impl<'t> TableReader<'t> {
         invalid_key(self.alloc, &self.place, key)
     }
 
+    /// Rejects a key, as `invalid_entry` says.
+    pub(crate) fn reject<T>(&self, key: &str) -> Result<T, ReadError<BadEntry>>
+        ensures { Reads (λ value. value) result (Err (invalid_key (placed self.now).place key.now)) }
+    {
+        match self.invalid_entry(key) {
+            Ok(entry) => Err(ReadError::Fault(entry)),
+            Err(_) => Err(ReadError::Memory),
+        }
+    }
+
     /// Returns `BadEntry` for the first key, in byte order, that is none of `keys`.
     pub fn check_keys(&self, keys: &[&str]) -> Result<(), ReadError<BadEntry>>
         ensures { Reads (λ nothing. nothing) result
@@ -80,7 +90,7 @@ impl<'t> TableReader<'t> {
     {
         for (key, _) in self.table.iter() {
             if !has_key(keys, key.as_str()) {
-                return Err(ReadError::Fault(self.invalid_entry(key.as_str())?));
+                return self.reject(key.as_str());
             }
         }
         Ok(())
@@ -109,7 +119,7 @@ impl<'t> TableReader<'t> {
     {
         match self.str(key) {
             Some(text) => Ok(Text::copy_of(self.alloc, text)?),
-            None => Err(ReadError::Fault(self.invalid_entry(key)?)),
+            None => self.reject(key),
         }
     }
 
@@ -119,7 +129,7 @@ impl<'t> TableReader<'t> {
     {
         match self.value(key).and_then(as_natural) {
             Some(number) => Ok(number),
-            None => Err(ReadError::Fault(self.invalid_entry(key)?)),
+            None => self.reject(key),
         }
     }
 
@@ -129,7 +139,7 @@ impl<'t> TableReader<'t> {
     {
         match self.value(key).and_then(Value::as_bool) {
             Some(flag) => Ok(flag),
-            None => Err(ReadError::Fault(self.invalid_entry(key)?)),
+            None => self.reject(key),
         }
     }
 
@@ -142,7 +152,7 @@ impl<'t> TableReader<'t> {
         };
         match value.as_str() {
             Some(text) => Ok(Some(Text::copy_of(self.alloc, text)?)),
-            None => Err(ReadError::Fault(self.invalid_entry(key)?)),
+            None => self.reject(key),
         }
     }
 
@@ -155,7 +165,7 @@ impl<'t> TableReader<'t> {
         };
         match as_natural(value) {
             Some(number) => Ok(Some(number)),
-            None => Err(ReadError::Fault(self.invalid_entry(key)?)),
+            None => self.reject(key),
         }
     }
 
@@ -168,7 +178,7 @@ impl<'t> TableReader<'t> {
         };
         match value.as_bool() {
             Some(flag) => Ok(Some(flag)),
-            None => Err(ReadError::Fault(self.invalid_entry(key)?)),
+            None => self.reject(key),
         }
     }
 

@@ -43,7 +43,7 @@ impl TableReader<'_> {
         ensures { Reads (λ strings. strings) result (strings_of key.now (placed self.now) (view value.now)) }
     {
         let Some(values) = value.as_array() else {
-            return Err(ReadError::Fault(self.invalid_entry(key)?));
+            return self.reject(key);
         };
         let path = write_path(self.alloc, &self.place, key)?;
         read_all(self.alloc, path.as_str(), values)
