@@ -8,10 +8,10 @@ use crate::books::{Books, Shares};
 use crate::parts::Parts;
 use crate::raisers::{Raisers, copied};
 use catalogue::Mirror;
-use mirror_books::{Book, BudgetName};
+use mirror_books::{Book, BudgetName, Raiser};
 use std::alloc::{AllocError, Global};
 use std::sync::ledger::Blank;
-use std::sync::{Mutex, Wait};
+use std::sync::{Mutex, Wait, ledger};
 
 /// Four new ledgers, one for the mirror at each index, and four of what the budgets are raised by.
 #[derive(Drop)]
@@ -89,6 +89,26 @@ pub struct Opened<A: BudgetName, B: BudgetName, C: BudgetName, D: BudgetName> {
     pub raisers: Raisers<A, B, C, D>,
 }
 
+// Opens the book of the mirror at an index, with all parts of its ledger, which have no bytes, and its raiser.
+fn open_one<P: BudgetName>(
+    mirrors: &[Mirror],
+    index: usize,
+    blank: Blank,
+    raises: Blank,
+    workers: usize,
+) -> (Mutex<Book<P>>, ledger::Share<P>, Raiser<P>)
+    requires bounded { are_bounded mirrors.now ≡ true }
+    requires named { IsNamed blank raises P.name P.parts P.budget P.most P.raising workers mirrors.now index }
+    ensures budget { budget_at mirrors.now index ≡ P.budget }
+    ensures parts { result.1.parts ≡ workers }
+    ensures amount { result.1.amount ≡ 0 }
+    ensures raiser { result.2 ≡ budget_at mirrors.now index }
+{
+    let _ = workers;
+    let (book, all, raiser) = Book::open(blank, raises, budget_of(mirrors, index));
+    (Mutex::new(book), all, raiser)
+}
+
 // rule: Shares at the opening
 /// Opens a book for each mirror, with the total 0, shares of 0 for each worker, and the raisers of the books.
 ///
@@ -119,10 +139,10 @@ pub fn open_books<A: BudgetName, B: BudgetName, C: BudgetName, D: BudgetName, R:
     let _ = rt;
     let copies = copied(alloc, &mirrors)?;
     let (raises_0, raises_1, raises_2, raises_3) = blanks.raises;
-    let (book_0, first, raiser_0) = Book::open(blanks.first, raises_0, budget_of(&mirrors, 0));
-    let (book_1, second, raiser_1) = Book::open(blanks.second, raises_1, budget_of(&mirrors, 1));
-    let (book_2, third, raiser_2) = Book::open(blanks.third, raises_2, budget_of(&mirrors, 2));
-    let (book_3, fourth, raiser_3) = Book::open(blanks.fourth, raises_3, budget_of(&mirrors, 3));
+    let (book_0, first, raiser_0) = open_one(&mirrors, 0, blanks.first, raises_0, workers);
+    let (book_1, second, raiser_1) = open_one(&mirrors, 1, blanks.second, raises_1, workers);
+    let (book_2, third, raiser_2) = open_one(&mirrors, 2, blanks.third, raises_2, workers);
+    let (book_3, fourth, raiser_3) = open_one(&mirrors, 3, blanks.fourth, raises_3, workers);
     let rest = Parts {
         first,
         second,
@@ -138,10 +158,10 @@ pub fn open_books<A: BudgetName, B: BudgetName, C: BudgetName, D: BudgetName, R:
     };
     let books = Books {
         given: mirrors,
-        first: Mutex::new(book_0),
-        second: Mutex::new(book_1),
-        third: Mutex::new(book_2),
-        fourth: Mutex::new(book_3),
+        first: book_0,
+        second: book_1,
+        third: book_2,
+        fourth: book_3,
     };
     let shares = split_shares(alloc, rest, workers)?;
     Ok(Opened {
