@@ -1,3 +1,5 @@
+use Rattle.std.proofs.Common.{arith}
+use Rattle.std.proofs.lemmas.Grind.{common_steps}
 use Rattle.reviews.proofs.ChangeLemmas.{none-there, without-after, without-before}
 use Rattle.reviews.proofs.change.push_pair.Goals as goal
 
@@ -12,3 +14,6 @@ returns-in_default-2 c =
     without-before c.args.before.now c.args.after.now c.args.old.now c.args.new.now c.args.changes.now.items
     (none-there c.get-one.result c.apps.result.now c.args.before.now c.args.old.now.key.app c.get-one.ensures.lookup.0 c.in_default.is-0
     c.apps.ensures)
+
+pub push_changes-requires : goal.push_changes-requires
+push_changes-requires c = grind (arith, common_steps)
