@@ -1,4 +1,5 @@
-use Rattle.std.proofs.Common.{rules, ◌≡◌, ◌<◌, ◌++◌, [], ◌∷◌, List, ap, get_or, length, subst, sym, take, true, ◌∙◌}
+use Rattle.std.proofs.Common.{rules, ◌≡◌, ◌<◌, ◌++◌, [], ◌∷◌, List, ap, get_or, length, subst, sym, take, true, ◌∙◌, arith}
+use Rattle.std.proofs.lemmas.Grind.{common_steps}
 use Rattle.values.specs.Ordered.{ascend}
 use Rattle.catalogue.specs.Validity.{is_release_below}
 use Rattle.catalogue.specs.declared.content.App.{App}
@@ -30,3 +31,6 @@ loop-index-preserved c =
     ∙ ap (λ (them : List AppSight). them ++ sight ∷ []) c.loop-index.invariant
     ∙ ap (λ (it : AppSight). sights_by reviews (take index apps) ++ it ∷ []) seen
     ∙ sym (sights_by-more reviews apps index app within)
+
+pub returns : goal.returns
+returns c = grind (arith, common_steps)
