@@ -29,7 +29,7 @@ from fuzzing.server import Connection, Wrong
 TOP = pathlib.Path(__file__).resolve().parent.parent
 EXAMPLES = TOP / "examples"
 # the crates that have tests without memory
-CRATES = ["catalogue_rows", "tables_rows", "protocol_rows", "server_rows"]
+CRATES = ["catalogue_rows", "client_rows", "server_rows"]
 LIMIT = 20
 SHOWN = 5
 

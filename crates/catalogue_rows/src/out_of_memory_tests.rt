@@ -2,11 +2,15 @@
 //
 // In the gate no allocation fails. `make allocations` lets each one of a test fail in turn, so of two tries one fails at most.
 
+use crate::kept::builds;
 use catalogue::{Batch, Catalogue, Refused};
-use fixtures::catalogue_of_profile;
+use fixtures::{DEMO, catalogue_of_profile, catalogue_of_script, keep};
+use par_tables::{Free, build_for};
+use price_cert::Certified;
 use profile_toml::read_profile;
 use std::alloc::Global;
-use values::ReadError;
+use std::thread::Threads;
+use values::{Items, ReadError};
 
 // Whether one of two tries came to what it should, and none to anything else; `None` is a try that ran out of memory.
 fn are_right(first: Option<bool>, second: Option<bool>) -> bool {
@@ -118,4 +122,45 @@ fn copies_batch(alloc: Global) -> Option<bool> {
 #[test]
 fn batch_copy_without_memory(rt: HostRuntime) {
     assert!(rt; are_right(copies_batch(rt.alloc()), copies_batch(rt.alloc())));
+}
+
+// Whether the tables that are made by two workers are those of one.
+fn builds_by_two<R: Threads>(rt: &R, alloc: Global) -> Option<bool> {
+    builds(rt, alloc, catalogue_of_script(alloc, DEMO, "")?, 2)
+}
+
+// rule: Tables of a catalogue
+#[test]
+fn build_and_tables_without_memory(rt: HostRuntime) {
+    let first = builds_by_two(&rt, rt.alloc());
+    assert!(rt; are_right(first, builds_by_two(&rt, rt.alloc())));
+}
+
+// The tables of both cohorts of the app, or of none; `None` if memory ran out.
+fn built_for<R: Threads>(
+    rt: &R,
+    alloc: Global,
+    catalogue: &Catalogue,
+    mark: bool,
+) -> Option<&'static Vec<Certified>> {
+    let marks = [Items::new(vec![in alloc; mark; 2].ok()?)];
+    keep(
+        alloc,
+        build_for(rt, alloc, catalogue, &marks, 2, &Free).ok()?,
+    )
+}
+
+// Whether the tables are made of the cohorts that are marked, and of no other.
+fn builds_for<R: Threads>(rt: &R, alloc: Global) -> Option<bool> {
+    let catalogue = catalogue_of_script(alloc, DEMO, "")?;
+    let marked = built_for(rt, alloc, catalogue, true)?;
+    let none = built_for(rt, alloc, catalogue, false)?;
+    Some(marked.len() == 4 && none.is_empty())
+}
+
+// rule: Tables of marked cohorts
+#[test]
+fn build_for_without_memory(rt: HostRuntime) {
+    let first = builds_for(&rt, rt.alloc());
+    assert!(rt; are_right(first, builds_for(&rt, rt.alloc())));
 }

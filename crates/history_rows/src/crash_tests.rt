@@ -1,7 +1,8 @@
 // A disk that stops at each of its calls in turn: what a call that succeeded has stored is there afterwards, and nothing
 // else unless a call was in doubt.
 
-use history_disks::{Disk, Life, are_records};
+use crate::calls::are_records;
+use crate::disk::{Disk, Life};
 use kept_records::{AppendFault, Cause, Kind, Record, Records};
 use std::alloc::Global;
 

@@ -2,10 +2,10 @@
 
 ghost use Rattle.std.specs.Prelude.{◌≡◌};
 
+use crate::calls::follows;
 use etcd_records::{
     EtcdRecords, EtcdStore, EtcdTurn, Exchange, Gateway, GatewayFault, MemoryGateway, Response,
 };
-use history_disks::follows;
 use std::alloc::Global;
 use std::cell::RefCell;
 use streams::Trace;

@@ -1,6 +1,7 @@
 // Histories in files of a disk in memory.
 
-use history_disks::{Disk, Life, are_records, follows};
+use crate::calls::{are_records, follows};
+use crate::disk::{Disk, Life};
 use kept_records::{Record, Records};
 use std::alloc::Global;
 

@@ -1,6 +1,6 @@
 // Records in memory.
 
-use history_disks::{follows, record_of};
+use crate::calls::{follows, record_of};
 use kept_records::{MemoryRecords, Turn};
 use std::alloc::Global;
 

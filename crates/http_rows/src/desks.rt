@@ -5,15 +5,33 @@ ghost use Rattle.http_desks.specs.Calls.{Call};
 
 use http_desks::{Answer, Declared, Desk, DeskStatus, Off, Page, PageKind};
 use http_memory::{Content, File, Shelf};
-use std::alloc::Global;
+use std::alloc::{AllocError, Global};
 
-/// The SHA-256 of `abc`, as FIPS 180 has it.
-pub(crate) const ABC: [u8; 32] = [
+// The SHA-256 of `abc`, as FIPS 180 has it.
+const ABC: [u8; 32] = [
     0xba, 0x78, 0x16, 0xbf, 0x8f, 0x01, 0xcf, 0xea, 0x41, 0x41, 0x40, 0xde, 0x5d, 0xae, 0x22, 0x23,
     0xb0, 0x03, 0x61, 0xa3, 0x96, 0x17, 0x7a, 0x9c, 0xb4, 0x10, 0xff, 0x61, 0xf2, 0x00, 0x15, 0xad,
 ];
 
-// SHA-256 of 200000 bytes `a`, as sha256sum prints it.
+// The SHA-256 of no bytes, as FIPS 180 has it.
+const NOTHING: [u8; 32] = [
+    0xe3, 0xb0, 0xc4, 0x42, 0x98, 0xfc, 0x1c, 0x14, 0x9a, 0xfb, 0xf4, 0xc8, 0x99, 0x6f, 0xb9, 0x24,
+    0x27, 0xae, 0x41, 0xe4, 0x64, 0x9b, 0x93, 0x4c, 0xa4, 0x95, 0x99, 0x1b, 0x78, 0x52, 0xb8, 0x55,
+];
+
+// The SHA-256 of 131073 bytes `a`, as sha256sum prints it.
+const LONG: [u8; 32] = [
+    0x7e, 0x00, 0x9e, 0xa4, 0xef, 0x88, 0x2e, 0x38, 0x5b, 0x3c, 0x0b, 0xcb, 0xbf, 0xa8, 0xd0, 0x09,
+    0xbb, 0x0a, 0x63, 0x3b, 0xdd, 0x76, 0x44, 0x15, 0xc0, 0x91, 0x82, 0xee, 0x0e, 0x75, 0xda, 0x73,
+];
+
+// The SHA-256 of 131072 bytes `b`, as sha256sum prints it.
+const EVEN: [u8; 32] = [
+    0x58, 0xef, 0x9a, 0x3f, 0xab, 0x7a, 0x3e, 0x76, 0x9d, 0x1b, 0x03, 0xb9, 0x65, 0x73, 0x17, 0xf4,
+    0x50, 0x9d, 0xbf, 0xc3, 0xad, 0x36, 0x96, 0xa6, 0xa2, 0x01, 0x58, 0x33, 0x70, 0x63, 0x9e, 0x59,
+];
+
+// The SHA-256 of 200000 bytes `a`, as sha256sum prints it.
 const LETTERS: [u8; 32] = [
     0x22, 0x87, 0xd2, 0x07, 0xf2, 0x4a, 0x94, 0x1f, 0xf3, 0xb5, 0x6c, 0x04, 0xc8, 0xa2, 0x5a, 0xd5,
     0x6b, 0x63, 0xe3, 0x02, 0x32, 0x07, 0xb3, 0xbb, 0x5b, 0x4a, 0xc0, 0xc9, 0x86, 0x9d, 0x74, 0xbe,
@@ -61,34 +79,66 @@ fn page_at(path: &[u8]) -> Option<(PageKind, &'static [u8])> {
     None
 }
 
-/// Replies to some bodies with a status, to one as an update service, and to others with the body. Its packages are
-/// `abc`, and one of 200000 letters. It shows three pages.
+// The names of packages, and what is declared of them.
+const PACKAGES: [(&[u8], u64, [u8; 32]); 7] = [
+    (b"letters.bin", 200_000, LETTERS),
+    (b"empty.bin", 0, NOTHING),
+    (b"long.bin", 131_073, LONG),
+    (b"even.bin", 131_072, EVEN),
+    (b"other.bin", 131_073, LONG),
+    (b"torn.bin", 131_073, LONG),
+    (b"grown.bin", 131_073, LONG),
+];
+
+// What is declared of a package: those that aren't named above are `abc`.
+fn declared_of(name: &[u8]) -> Declared {
+    for (known, size, hash) in &PACKAGES {
+        if *known == name {
+            return Declared {
+                size: *size,
+                hash: *hash,
+            };
+        }
+    }
+    Declared { size: 3, hash: ABC }
+}
+
+// The body of a reply: this one, or the timestamp, if the message asks for it.
+fn body_of(alloc: Global, reply: &[u8], seconds: u64) -> Result<Vec<u8>, AllocError> {
+    if reply == b"second".as_slice() {
+        return Ok(format!(in alloc; "{seconds}")?.into_bytes());
+    }
+    Vec::from_slice(alloc, reply)
+}
+
+/// Replies to some bodies with a status, to `second` with the timestamp at which it was asked, and to others with the
+/// body. Each package is known but `none.bin`. It shows three pages.
 #[derive(Drop)]
 pub(crate) struct Echo {
     pub(crate) alloc: Global,
 }
 
 impl Desk for Echo {
-    ghost path = { λ _. codes "/service/update2/json" };
+    ghost path = { λ _. codes "/echo" };
 
-    ghost content_type = { λ _. codes "application/json" };
+    ghost content_type = { λ _. codes "text/plain" };
 
     ghost steps = { λ _ _ _. Unit {0} };
 
     fn path(&self) -> &str {
-        "/service/update2/json"
+        "/echo"
     }
 
     fn content_type(&self) -> &str {
-        "application/json"
+        "text/plain"
     }
 
-    fn answer(&mut self, body: &[u8], _moment: u64) -> Result<Answer, Off> {
+    fn answer(&mut self, body: &[u8], seconds: u64) -> Result<Answer, Off> {
         if body == b"closed".as_slice() {
             return Err(Off::Closed);
         }
         let (status, reply) = reply_to(body);
-        match Vec::from_slice(self.alloc, reply) {
+        match body_of(self.alloc, reply, seconds) {
             Ok(reply) if body != b"memory".as_slice() => Ok(Answer {
                 status,
                 body: reply,
@@ -101,13 +151,7 @@ impl Desk for Echo {
         if name == b"none.bin".as_slice() {
             return None;
         }
-        if name == b"letters.bin".as_slice() {
-            return Some(Declared {
-                size: 200_000,
-                hash: LETTERS,
-            });
-        }
-        Some(Declared { size: 3, hash: ABC })
+        Some(declared_of(name))
     }
 
     fn page(&mut self, at: &[u8]) -> Result<Option<Page>, Off> {
@@ -124,7 +168,8 @@ impl Desk for Echo {
     }
 }
 
-/// The files of some packages, of which one is `abc`, one has other bytes and one is short.
+/// The files: `changed.bin`, `cut.bin` and `other.bin` have other bytes than declared, `short.bin` is short, of
+/// `torn.bin` the end can't be read, and `grown.bin` has a byte more.
 pub(crate) const FILES: Shelf<'static> = Shelf {
     files: &[
         File {
@@ -146,6 +191,46 @@ pub(crate) const FILES: Shelf<'static> = Shelf {
             name: b"short.bin",
             content: Content::Bytes(b"ab"),
             readable: 2,
+        },
+        File {
+            name: b"a.bin",
+            content: Content::Bytes(b"abc"),
+            readable: 3,
+        },
+        File {
+            name: b"cut.bin",
+            content: Content::Bytes(b"xbc"),
+            readable: 3,
+        },
+        File {
+            name: b"empty.bin",
+            content: Content::Bytes(b""),
+            readable: 0,
+        },
+        File {
+            name: b"long.bin",
+            content: Content::Repeated(b'a', 131_073),
+            readable: 131_073,
+        },
+        File {
+            name: b"even.bin",
+            content: Content::Repeated(b'b', 131_072),
+            readable: 131_072,
+        },
+        File {
+            name: b"other.bin",
+            content: Content::Repeated(b'c', 131_073),
+            readable: 131_073,
+        },
+        File {
+            name: b"torn.bin",
+            content: Content::Repeated(b'a', 131_073),
+            readable: 70_000,
+        },
+        File {
+            name: b"grown.bin",
+            content: Content::Repeated(b'a', 131_074),
+            readable: 131_074,
         },
     ],
 };

@@ -58,7 +58,7 @@ iiii9i1|4 1 0|4 1 failed
 
 // Whether the calls of a row come to what it says.
 fn comes_to_its_ends(row: &str) -> bool {
-    let [script, read, written, _, _, _] = columns(row);
+    let [script, read, written, _, _] = columns(row, '|');
     let (blank, other) = (Blank::new(1), Blank::new(1));
     let is_read = are(read_thrice::<Brand>(script.as_bytes(), blank), read);
     is_read && are(write_thrice::<Brand>(script.as_bytes(), other), written)

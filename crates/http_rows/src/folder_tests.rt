@@ -53,7 +53,7 @@ const ROWS: &str = "\
 /proc/self/missing|x|0|missing|failed";
 
 fn is_so(rt: &HostRuntime, row: &str) -> bool {
-    let [path, name, at, size, bytes, _] = columns(row);
+    let [path, name, at, size, bytes] = columns(row, '|');
     let folder = Folder::new(rt.alloc(), rt, path);
     has_size(&folder, name, size) && has_bytes(&folder, name, at, bytes)
 }

@@ -2,10 +2,10 @@
 
 use std::alloc::{AllocError, Global};
 
-/// The columns of a row, with a bar between two; those that there aren't are empty.
-pub(crate) fn columns(row: &str) -> [&str; 6] {
-    let mut columns = [""; 6];
-    for (index, part) in row.split('|').enumerate() {
+/// The columns of a row, with such a separator between two; those that there aren't are empty.
+pub(crate) fn columns(row: &str, separator: char) -> [&str; 5] {
+    let mut columns = [""; 5];
+    for (index, part) in row.split(separator).enumerate() {
         if let Some(column) = columns.get_mut(index) {
             *column = part;
         }

@@ -8,7 +8,7 @@ use http_sessions::{End, Fault, Served, serve};
 // session ended. `~` is CR LF, `^` a lone LF, `@` NUL, and what is repeated is between two `$`.
 const SESSIONS: &str = "\
 GET / HTTP/1.1~~|HTTP/1.1 404 Not Found~Content-Length: 0~~|1|finished
-GET /service/update2/json HTTP/1.1~~|HTTP/1.1 405 Method Not Allowed~Allow: POST~Content-Length: 0~~|1|finished
+GET /echo HTTP/1.1~~|HTTP/1.1 405 Method Not Allowed~Allow: POST~Content-Length: 0~~|1|finished
 HEAD /p/mini-1.0.bin HTTP/1.1~~|HTTP/1.1 405 Method Not Allowed~Allow: GET~Content-Length: 0~~|1|finished
 HEAD /p/none.bin HTTP/1.1~~|HTTP/1.1 404 Not Found~Content-Length: 0~~|1|finished
 GET / HTTP/3.9~~|HTTP/1.1 400 Bad Request~Content-Length: 0~Connection: close~~|1|refused
@@ -20,14 +20,14 @@ POST / HTTP/1.1~~|HTTP/1.1 411 Length Required~Content-Length: 0~Connection: clo
 POST / HTTP/1.1~Content-Length: 5x~~|HTTP/1.1 400 Bad Request~Content-Length: 0~Connection: close~~|1|refused
 POST / HTTP/1.1~Content-Length: 262145~~|HTTP/1.1 413 Content Too Large~Content-Length: 0~Connection: close~~|1|refused
 POST / HTTP/1.1~Content-Length: 18446744073709551616~~|HTTP/1.1 413 Content Too Large~Content-Length: 0~Connection: close~~|1|refused
-post /service/update2/json HTTP/1.1~~|HTTP/1.1 405 Method Not Allowed~Allow: POST~Content-Length: 0~~|1|finished
-POST /service/update2/json HTTP/1.1~Content-Length: 1~~{|HTTP/1.1 400 Bad Request~Content-Length: 0~~|1|finished
-POST /service/update2/json HTTP/1.1~Content-Length: 4~~base|HTTP/1.1 409 Conflict~Content-Type: application/json~Content-Length: 8~~stale 2^|1|finished
-POST /service/update2/json HTTP/1.1~Content-Length: 5~~fault|HTTP/1.1 422 Unprocessable Content~Content-Type: application/json~Content-Length: 10~~refused 0^|1|finished
-POST /service/update2/json HTTP/1.1~Content-Length: 6~~memory|HTTP/1.1 500 Internal Server Error~Content-Length: 0~Connection: close~~|1|refused
-POST /service/update2/json HTTP/1.1~Content-Length: 6~~closedGET / HTTP/1.1~~|HTTP/1.1 500 Internal Server Error~Content-Length: 0~Connection: close~~|1|refused
-POST /service/update2/json HTTP/1.1~Content-Length: 30~~{\"request\":{\"protocol\":\"3.1\"}}|HTTP/1.1 200 OK~Content-Type: application/json~Content-Length: 95~~)]}'^{\"response\":{\"app\":[],\"daystart\":{\"elapsed_days\":0,\"elapsed_seconds\":0},\"protocol\":\"3.1\"}}|1|finished
-POST /service/update2/json?x HTTP/1.1~Content-Length: 18~~GET / HTTP/1.1~~GET|HTTP/1.1 200 OK~Content-Type: application/json~Content-Length: 18~~GET / HTTP/1.1~~|1|unfinished
+post /echo HTTP/1.1~~|HTTP/1.1 405 Method Not Allowed~Allow: POST~Content-Length: 0~~|1|finished
+POST /echo HTTP/1.1~Content-Length: 1~~{|HTTP/1.1 400 Bad Request~Content-Length: 0~~|1|finished
+POST /echo HTTP/1.1~Content-Length: 4~~base|HTTP/1.1 409 Conflict~Content-Type: text/plain~Content-Length: 8~~stale 2^|1|finished
+POST /echo HTTP/1.1~Content-Length: 5~~fault|HTTP/1.1 422 Unprocessable Content~Content-Type: text/plain~Content-Length: 10~~refused 0^|1|finished
+POST /echo HTTP/1.1~Content-Length: 6~~memory|HTTP/1.1 500 Internal Server Error~Content-Length: 0~Connection: close~~|1|refused
+POST /echo HTTP/1.1~Content-Length: 6~~closedGET / HTTP/1.1~~|HTTP/1.1 500 Internal Server Error~Content-Length: 0~Connection: close~~|1|refused
+POST /echo HTTP/1.1~Content-Length: 30~~{\"request\":{\"protocol\":\"3.1\"}}|HTTP/1.1 200 OK~Content-Type: text/plain~Content-Length: 95~~)]}'^{\"response\":{\"app\":[],\"daystart\":{\"elapsed_days\":0,\"elapsed_seconds\":0},\"protocol\":\"3.1\"}}|1|finished
+POST /echo?x HTTP/1.1~Content-Length: 18~~GET / HTTP/1.1~~GET|HTTP/1.1 200 OK~Content-Type: text/plain~Content-Length: 18~~GET / HTTP/1.1~~|1|unfinished
 GET /p/mini-1.0.bin?x=1 HTTP/1.1~~|HTTP/1.1 200 OK~Content-Type: application/octet-stream~Content-Length: 3~~abc|1|finished
 GET /p/mini-1.0.bin?x=1 HTTP/1.0~~|HTTP/1.1 200 OK~Content-Type: application/octet-stream~Content-Length: 3~Connection: close~~abc|1|finished
 GET /p/changed.bin HTTP/1.1~~|HTTP/1.1 200 OK~Content-Type: application/octet-stream~Content-Length: 3~~|1|cut
@@ -152,7 +152,7 @@ pub(crate) fn serve_sent(
 
 // Whether a connection gets what its row says.
 fn is_served(rt: &HostRuntime, row: &str, piece: usize) -> Option<bool> {
-    let [sent, replies, requests, how, _, _] = columns(row);
+    let [sent, replies, requests, how, _] = columns(row, '|');
     let requests = requests.parse().ok()?;
     let sent = expand(rt.alloc(), sent)?;
     let replies = expand(rt.alloc(), replies)?;

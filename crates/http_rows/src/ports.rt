@@ -4,7 +4,7 @@ ghost use Rattle.std.specs.Prelude.{◌≡◌, ℕ};
 ghost use Rattle.http_ports.specs.Traffic.{unused};
 ghost use Rattle.http_memory.specs.Seats.{accepted_in, slots_of};
 
-use crate::desk::{Echo, FILES};
+use crate::desks::{Echo, FILES};
 use crate::peers::{are_as_said, script_of};
 use http_memory::Script;
 use http_ports::{Port, run};

@@ -55,7 +55,7 @@ fn manner_of(words: &str, piece: usize) -> Manner {
 
 // Makes the peer that has this input.
 fn make_peer(alloc: Global, manner: Manner, input: &str) -> Option<Peer> {
-    let input = Vec::from_slice(alloc, expand(alloc, input, "")?).ok()?;
+    let input = Vec::from_slice(alloc, expand(alloc, input)?).ok()?;
     let mut peer = Peer::new(alloc, input, manner.piece, manner.room).ok()?;
     peer.after_input = manner.after_input;
     peer.when_full = manner.when_full;
@@ -66,7 +66,7 @@ fn make_peer(alloc: Global, manner: Manner, input: &str) -> Option<Peer> {
 // Puts the peers of a row after those of their slots.
 fn add_peers(alloc: Global, seats: &mut [Seat], row: &str, piece: usize) -> Option<()> {
     for text in row.split('|') {
-        let [words, input, _, _] = columns(text);
+        let [words, input, _, _, _] = columns(text, ';');
         let manner = manner_of(words, piece);
         let seat = seats.get_mut(manner.slot)?;
         seat.peers.push(make_peer(alloc, manner, input)?).ok()?;
@@ -125,8 +125,8 @@ fn end_of(peer: &Peer) -> &'static str {
 
 // Whether a peer got what its columns say, and its connection ended so.
 fn is_as_said(alloc: Global, peer: &Peer, text: &str) -> Option<bool> {
-    let [_, _, how, got] = columns(text);
-    let got = expand(alloc, got, "")?;
+    let [_, _, how, got, _] = columns(text, ';');
+    let got = expand(alloc, got)?;
     Some(end_of(peer) == how && peer.got.as_slice() == got)
 }
 
@@ -137,7 +137,7 @@ fn is_next_as_said(
     alloc: Global,
     text: &str,
 ) -> Option<bool> {
-    let slot = manner_of(columns(text)[0], 0).slot;
+    let slot = manner_of(columns(text, ';')[0], 0).slot;
     let count = counts.get_mut(slot)?;
     let peer = script.seats.get(slot)?.peers.get(*count)?;
     *count = count.saturating_add(1);

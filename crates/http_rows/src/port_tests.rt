@@ -1,7 +1,7 @@
 // What peers get. A row is the peers of two slots, with a bar between two: how each behaves, what it sends, how its
-// connection ends and what it gets. `~` is CR LF, and `%3*ab%` is `ababab`.
+// connection ends and what it gets. `~` is CR LF, and `$3*ab$` is `ababab`.
 
-use crate::rows::wrong_row;
+use crate::ports::wrong_row;
 use http_sessions::Buffers;
 use std::alloc::AllocError;
 use std::sync::Wait;
@@ -41,22 +41,22 @@ const QUEUES: &str = "\
 // A head of 16384 bytes and one of 16385; 999 messages, and 1001 of which the last gets no reply; the same from a peer
 // that never pauses, beside another one.
 const LIMITS: &str = "\
-;GET / HTTP/1.1~X: %16361*y%~~;ended;HTTP/1.1 404 Not Found~Content-Length: 0~~
-;GET / HTTP/1.1~X: %16362*y%~~;over;HTTP/1.1 431 Request Header Fields Too Large~Content-Length: 0~Connection: close~~
-;%999*GET / HTTP/1.1~~%;ended;%999*HTTP/1.1 404 Not Found~Content-Length: 0~~%
-;%1001*GET / HTTP/1.1~~%;over;%999*HTTP/1.1 404 Not Found~Content-Length: 0~~%HTTP/1.1 404 Not Found~Content-Length: 0~Connection: close~~
-quick;%1001*GET / HTTP/1.1~~%;over;%999*HTTP/1.1 404 Not Found~Content-Length: 0~~%HTTP/1.1 404 Not Found~Content-Length: 0~Connection: close~~|slot=1;GET / HTTP/1.1~~;ended;HTTP/1.1 404 Not Found~Content-Length: 0~~
+;GET / HTTP/1.1~X: $16361*y$~~;ended;HTTP/1.1 404 Not Found~Content-Length: 0~~
+;GET / HTTP/1.1~X: $16362*y$~~;over;HTTP/1.1 431 Request Header Fields Too Large~Content-Length: 0~Connection: close~~
+;$999*GET / HTTP/1.1~~$;ended;$999*HTTP/1.1 404 Not Found~Content-Length: 0~~$
+;$1001*GET / HTTP/1.1~~$;over;$999*HTTP/1.1 404 Not Found~Content-Length: 0~~$HTTP/1.1 404 Not Found~Content-Length: 0~Connection: close~~
+quick;$1001*GET / HTTP/1.1~~$;over;$999*HTTP/1.1 404 Not Found~Content-Length: 0~~$HTTP/1.1 404 Not Found~Content-Length: 0~Connection: close~~|slot=1;GET / HTTP/1.1~~;ended;HTTP/1.1 404 Not Found~Content-Length: 0~~
 ";
 
 // One peer: packages of three and of two blocks, and beside others one of no bytes; and packages that are cut, since the
 // digest differs, a block can't be read, or the file has another size.
 const DOWNLOADS: &str = "\
-room=300000;GET /p/long.bin HTTP/1.1~~;ended;HTTP/1.1 200 OK~Content-Type: application/octet-stream~Content-Length: 131073~~%8192*aaaaaaaaaaaaaaaa%a
-room=300000;GET /p/even.bin HTTP/1.1~~GET /p/empty.bin HTTP/1.1~~POST /echo HTTP/1.1~Content-Length: 3~~one;ended;HTTP/1.1 200 OK~Content-Type: application/octet-stream~Content-Length: 131072~~%8192*bbbbbbbbbbbbbbbb%HTTP/1.1 200 OK~Content-Type: application/octet-stream~Content-Length: 0~~HTTP/1.1 200 OK~Content-Type: text/plain~Content-Length: 3~~one
-room=300000;POST /echo HTTP/1.1~Content-Length: 3~~oneGET /p/long.bin HTTP/1.1~~POST /echo HTTP/1.1~Content-Length: 3~~twoGET /p/a.bin HTTP/1.1~~;ended;HTTP/1.1 200 OK~Content-Type: text/plain~Content-Length: 3~~oneHTTP/1.1 200 OK~Content-Type: application/octet-stream~Content-Length: 131073~~%8192*aaaaaaaaaaaaaaaa%aHTTP/1.1 200 OK~Content-Type: text/plain~Content-Length: 3~~twoHTTP/1.1 200 OK~Content-Type: application/octet-stream~Content-Length: 3~~abc
-room=300000;GET /p/long.bin HTTP/1.1~Connection: close~~POST /echo HTTP/1.1~Content-Length: 3~~two;over;HTTP/1.1 200 OK~Content-Type: application/octet-stream~Content-Length: 131073~Connection: close~~%8192*aaaaaaaaaaaaaaaa%a
-room=300000;GET /p/other.bin HTTP/1.1~~POST /echo HTTP/1.1~Content-Length: 3~~two;over;HTTP/1.1 200 OK~Content-Type: application/octet-stream~Content-Length: 131073~~%8192*cccccccccccccccc%
-room=300000;GET /p/short.bin HTTP/1.1~~POST /echo HTTP/1.1~Content-Length: 3~~two;over;HTTP/1.1 200 OK~Content-Type: application/octet-stream~Content-Length: 131073~~%4096*aaaaaaaaaaaaaaaa%
+room=300000;GET /p/long.bin HTTP/1.1~~;ended;HTTP/1.1 200 OK~Content-Type: application/octet-stream~Content-Length: 131073~~$8192*aaaaaaaaaaaaaaaa$a
+room=300000;GET /p/even.bin HTTP/1.1~~GET /p/empty.bin HTTP/1.1~~POST /echo HTTP/1.1~Content-Length: 3~~one;ended;HTTP/1.1 200 OK~Content-Type: application/octet-stream~Content-Length: 131072~~$8192*bbbbbbbbbbbbbbbb$HTTP/1.1 200 OK~Content-Type: application/octet-stream~Content-Length: 0~~HTTP/1.1 200 OK~Content-Type: text/plain~Content-Length: 3~~one
+room=300000;POST /echo HTTP/1.1~Content-Length: 3~~oneGET /p/long.bin HTTP/1.1~~POST /echo HTTP/1.1~Content-Length: 3~~twoGET /p/a.bin HTTP/1.1~~;ended;HTTP/1.1 200 OK~Content-Type: text/plain~Content-Length: 3~~oneHTTP/1.1 200 OK~Content-Type: application/octet-stream~Content-Length: 131073~~$8192*aaaaaaaaaaaaaaaa$aHTTP/1.1 200 OK~Content-Type: text/plain~Content-Length: 3~~twoHTTP/1.1 200 OK~Content-Type: application/octet-stream~Content-Length: 3~~abc
+room=300000;GET /p/long.bin HTTP/1.1~Connection: close~~POST /echo HTTP/1.1~Content-Length: 3~~two;over;HTTP/1.1 200 OK~Content-Type: application/octet-stream~Content-Length: 131073~Connection: close~~$8192*aaaaaaaaaaaaaaaa$a
+room=300000;GET /p/other.bin HTTP/1.1~~POST /echo HTTP/1.1~Content-Length: 3~~two;over;HTTP/1.1 200 OK~Content-Type: application/octet-stream~Content-Length: 131073~~$8192*cccccccccccccccc$
+room=300000;GET /p/torn.bin HTTP/1.1~~POST /echo HTTP/1.1~Content-Length: 3~~two;over;HTTP/1.1 200 OK~Content-Type: application/octet-stream~Content-Length: 131073~~$4096*aaaaaaaaaaaaaaaa$
 room=300000;GET /p/grown.bin HTTP/1.1~~POST /echo HTTP/1.1~Content-Length: 3~~two;over;HTTP/1.1 200 OK~Content-Type: application/octet-stream~Content-Length: 131073~~
 room=300000;GET /p/none.bin HTTP/1.1~~GET /p/a.bin HTTP/1.1~~;ended;HTTP/1.1 404 Not Found~Content-Length: 0~~HTTP/1.1 200 OK~Content-Type: application/octet-stream~Content-Length: 3~~abc
 room=300000;POST /p/long.bin HTTP/1.1~Content-Length: 3~~oneGET /p/a.bin HTTP/1.1~~;ended;HTTP/1.1 405 Method Not Allowed~Allow: GET~Content-Length: 0~~HTTP/1.1 200 OK~Content-Type: application/octet-stream~Content-Length: 3~~abc
@@ -64,11 +64,11 @@ room=300000;POST /p/long.bin HTTP/1.1~Content-Length: 3~~oneGET /p/a.bin HTTP/1.
 
 // Two peers at once that download, of which one may take only a part.
 const SIDE: &str = "\
-room=300000;GET /p/long.bin HTTP/1.1~~;ended;HTTP/1.1 200 OK~Content-Type: application/octet-stream~Content-Length: 131073~~%8192*aaaaaaaaaaaaaaaa%a|slot=1 room=300000;GET /p/even.bin HTTP/1.1~~;ended;HTTP/1.1 200 OK~Content-Type: application/octet-stream~Content-Length: 131072~~%8192*bbbbbbbbbbbbbbbb%
-room=300000 quick;GET /p/long.bin HTTP/1.1~~GET /p/even.bin HTTP/1.1~~;ended;HTTP/1.1 200 OK~Content-Type: application/octet-stream~Content-Length: 131073~~%8192*aaaaaaaaaaaaaaaa%aHTTP/1.1 200 OK~Content-Type: application/octet-stream~Content-Length: 131072~~%8192*bbbbbbbbbbbbbbbb%|slot=1 room=300000;POST /echo HTTP/1.1~Content-Length: 3~~oneGET /p/even.bin HTTP/1.1~~POST /echo HTTP/1.1~Content-Length: 3~~two;ended;HTTP/1.1 200 OK~Content-Type: text/plain~Content-Length: 3~~oneHTTP/1.1 200 OK~Content-Type: application/octet-stream~Content-Length: 131072~~%8192*bbbbbbbbbbbbbbbb%HTTP/1.1 200 OK~Content-Type: text/plain~Content-Length: 3~~two
-room=70000;GET /p/long.bin HTTP/1.1~~;write failed;HTTP/1.1 200 OK~Content-Type: application/octet-stream~Content-Length: 131073~~%4369*aaaaaaaaaaaaaaaa%aaaaaaaaaaaaa|slot=1 room=300000;GET /p/even.bin HTTP/1.1~~;ended;HTTP/1.1 200 OK~Content-Type: application/octet-stream~Content-Length: 131072~~%8192*bbbbbbbbbbbbbbbb%|;POST /echo HTTP/1.1~Content-Length: 3~~one;ended;HTTP/1.1 200 OK~Content-Type: text/plain~Content-Length: 3~~one
-room=70000 blocked;GET /p/long.bin HTTP/1.1~~;late;HTTP/1.1 200 OK~Content-Type: application/octet-stream~Content-Length: 131073~~%4369*aaaaaaaaaaaaaaaa%aaaaaaaaaaaaa|slot=1 room=300000;GET /p/even.bin HTTP/1.1~~;ended;HTTP/1.1 200 OK~Content-Type: application/octet-stream~Content-Length: 131072~~%8192*bbbbbbbbbbbbbbbb%|slot=1 room=300000;GET /p/long.bin HTTP/1.1~~;ended;HTTP/1.1 200 OK~Content-Type: application/octet-stream~Content-Length: 131073~~%8192*aaaaaaaaaaaaaaaa%a
-room=300000;GET /p/other.bin HTTP/1.1~~;over;HTTP/1.1 200 OK~Content-Type: application/octet-stream~Content-Length: 131073~~%8192*cccccccccccccccc%|slot=1 room=300000;GET /p/long.bin HTTP/1.1~~;ended;HTTP/1.1 200 OK~Content-Type: application/octet-stream~Content-Length: 131073~~%8192*aaaaaaaaaaaaaaaa%a|room=300000;GET /p/short.bin HTTP/1.1~~;over;HTTP/1.1 200 OK~Content-Type: application/octet-stream~Content-Length: 131073~~%4096*aaaaaaaaaaaaaaaa%
+room=300000;GET /p/long.bin HTTP/1.1~~;ended;HTTP/1.1 200 OK~Content-Type: application/octet-stream~Content-Length: 131073~~$8192*aaaaaaaaaaaaaaaa$a|slot=1 room=300000;GET /p/even.bin HTTP/1.1~~;ended;HTTP/1.1 200 OK~Content-Type: application/octet-stream~Content-Length: 131072~~$8192*bbbbbbbbbbbbbbbb$
+room=300000 quick;GET /p/long.bin HTTP/1.1~~GET /p/even.bin HTTP/1.1~~;ended;HTTP/1.1 200 OK~Content-Type: application/octet-stream~Content-Length: 131073~~$8192*aaaaaaaaaaaaaaaa$aHTTP/1.1 200 OK~Content-Type: application/octet-stream~Content-Length: 131072~~$8192*bbbbbbbbbbbbbbbb$|slot=1 room=300000;POST /echo HTTP/1.1~Content-Length: 3~~oneGET /p/even.bin HTTP/1.1~~POST /echo HTTP/1.1~Content-Length: 3~~two;ended;HTTP/1.1 200 OK~Content-Type: text/plain~Content-Length: 3~~oneHTTP/1.1 200 OK~Content-Type: application/octet-stream~Content-Length: 131072~~$8192*bbbbbbbbbbbbbbbb$HTTP/1.1 200 OK~Content-Type: text/plain~Content-Length: 3~~two
+room=70000;GET /p/long.bin HTTP/1.1~~;write failed;HTTP/1.1 200 OK~Content-Type: application/octet-stream~Content-Length: 131073~~$4369*aaaaaaaaaaaaaaaa$aaaaaaaaaaaaa|slot=1 room=300000;GET /p/even.bin HTTP/1.1~~;ended;HTTP/1.1 200 OK~Content-Type: application/octet-stream~Content-Length: 131072~~$8192*bbbbbbbbbbbbbbbb$|;POST /echo HTTP/1.1~Content-Length: 3~~one;ended;HTTP/1.1 200 OK~Content-Type: text/plain~Content-Length: 3~~one
+room=70000 blocked;GET /p/long.bin HTTP/1.1~~;late;HTTP/1.1 200 OK~Content-Type: application/octet-stream~Content-Length: 131073~~$4369*aaaaaaaaaaaaaaaa$aaaaaaaaaaaaa|slot=1 room=300000;GET /p/even.bin HTTP/1.1~~;ended;HTTP/1.1 200 OK~Content-Type: application/octet-stream~Content-Length: 131072~~$8192*bbbbbbbbbbbbbbbb$|slot=1 room=300000;GET /p/long.bin HTTP/1.1~~;ended;HTTP/1.1 200 OK~Content-Type: application/octet-stream~Content-Length: 131073~~$8192*aaaaaaaaaaaaaaaa$a
+room=300000;GET /p/other.bin HTTP/1.1~~;over;HTTP/1.1 200 OK~Content-Type: application/octet-stream~Content-Length: 131073~~$8192*cccccccccccccccc$|slot=1 room=300000;GET /p/long.bin HTTP/1.1~~;ended;HTTP/1.1 200 OK~Content-Type: application/octet-stream~Content-Length: 131073~~$8192*aaaaaaaaaaaaaaaa$a|room=300000;GET /p/torn.bin HTTP/1.1~~;over;HTTP/1.1 200 OK~Content-Type: application/octet-stream~Content-Length: 131073~~$4096*aaaaaaaaaaaaaaaa$
 ";
 
 // Of each table: its rows, and the lengths of pieces and the orders of turns over which it is so.

@@ -12,7 +12,7 @@ use sqlite_disk::{Crash, Fuse, Memory};
 use std::alloc::Global;
 
 /// Two files of a database in memory, which stop after so many calls each.
-pub struct Disk {
+pub(crate) struct Disk {
     files: Files<Fuse<Memory>>,
 }
 
@@ -25,7 +25,7 @@ impl Drop for Disk {
 
 impl Disk {
     /// Two empty files.
-    pub fn empty(alloc: Global, log_calls: u64, db_calls: u64) -> Disk {
+    pub(crate) fn empty(alloc: Global, log_calls: u64, db_calls: u64) -> Disk {
         Disk {
             files: Files {
                 log: Fuse::new(Memory::new(alloc), log_calls),
@@ -36,7 +36,7 @@ impl Disk {
 }
 
 /// What is done with the records of a history.
-pub trait Life {
+pub(crate) trait Life {
     /// Makes its calls on the records, of which the open found these.
     fn live<R: Records>(&mut self, alloc: Global, records: &mut R, found: &[Record]);
 }
@@ -112,14 +112,14 @@ fn live_in<D: Crash + Drop, L: Life>(
 impl Disk {
     /// Opens the history on the disk, or makes one, whose records may have 10 bytes together, and lives with it; then gives
     /// back the disk, as a crash leaves it. `None` if there is no history, and nothing was done.
-    pub fn crash_after<L: Life>(self, alloc: Global, life: &mut L) -> Option<Disk> {
+    pub(crate) fn crash_after<L: Life>(self, alloc: Global, life: &mut L) -> Option<Disk> {
         let Disk { files } = self;
         let files = live_in(alloc, files, life, true)?;
         Some(Disk { files })
     }
 
     /// The same, but closes the history. `None` also if that fails.
-    pub fn close_after<L: Life>(self, alloc: Global, life: &mut L) -> Option<Disk> {
+    pub(crate) fn close_after<L: Life>(self, alloc: Global, life: &mut L) -> Option<Disk> {
         let Disk { files } = self;
         let files = live_in(alloc, files, life, false)?;
         Some(Disk { files })

@@ -2,7 +2,7 @@
 
 ghost use Rattle.std.specs.Prelude.{◌≡◌, []};
 
-use crate::link::Played;
+use crate::played::Played;
 use crate::shelf::Shelf;
 use std::alloc::Global;
 use update_client::{Client, Fault, Walk};

@@ -40,14 +40,3 @@ pub(crate) fn expand(alloc: Global, first: &str, second: &str) -> Option<&'stati
     push_column(&mut bytes, second).ok()?;
     Some(bytes.leak())
 }
-
-/// The columns of a peer, with a semicolon between two; those that there aren't are empty.
-pub(crate) fn columns(text: &str) -> [&str; 4] {
-    let mut columns = [""; 4];
-    for (index, part) in text.split(';').enumerate() {
-        if let Some(column) = columns.get_mut(index) {
-            *column = part;
-        }
-    }
-    columns
-}

@@ -23,13 +23,13 @@ fn kind_of(letter: &str) -> Option<Kind> {
 }
 
 /// The record that a word names.
-pub fn record_of(alloc: Global, word: &str) -> Option<Record> {
+pub(crate) fn record_of(alloc: Global, word: &str) -> Option<Record> {
     let (letter, bytes) = word.split_once(':')?;
     Record::copy_of(alloc, kind_of(letter)?, bytes.as_bytes()).ok()
 }
 
-/// Whether a word names the record.
-pub fn is_record(found: &Record, word: &str) -> bool {
+// Whether a word names the record.
+fn is_record(found: &Record, word: &str) -> bool {
     let Some((letter, bytes)) = word.split_once(':') else {
         return false;
     };
@@ -37,7 +37,7 @@ pub fn is_record(found: &Record, word: &str) -> bool {
 }
 
 /// Whether the words name the records, in order.
-pub fn are_records(found: &[Record], words: &str) -> bool {
+pub(crate) fn are_records(found: &[Record], words: &str) -> bool {
     let mut left = found;
     for word in words.split_whitespace() {
         let [first, rest @ ..] = left else {
@@ -111,7 +111,7 @@ fn is_call<R: Records>(records: &mut R, alloc: Global, call: &str, wanted: &str)
 }
 
 /// Whether each call of a row comes to what the row says.
-pub fn follows<R: Records>(records: &mut R, alloc: Global, row: &str) -> Option<bool> {
+pub(crate) fn follows<R: Records>(records: &mut R, alloc: Global, row: &str) -> Option<bool> {
     for word in row.split_whitespace() {
         let (call, wanted) = word.split_once('=')?;
         if !is_call(records, alloc, call, wanted)? {

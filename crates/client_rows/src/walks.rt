@@ -1,4 +1,4 @@
-use crate::link::Played;
+use crate::played::Played;
 use crate::shelf::Shelf;
 use std::alloc::{AllocError, Global};
 use update_client::{Client, Fault, Walk};
