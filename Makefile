@@ -88,7 +88,7 @@ deb:
 	tests/deb.py
 
 allocations:
-	for crate in catalogue_rows client_rows server_rows; do \
+	for crate in catalogue_rows client_rows; do \
 		(cd crates/$$crate && rt test -- without_memory) || exit 1; done
 	tests/allocations.py
 

@@ -100,6 +100,7 @@ def reply_of(profile, request):
 
 # rule: Audience
 # rule: Chosen payload
+# rule: Downward
 # rule: Floor
 # rule: Graph of a track
 # rule: Least sum
@@ -107,12 +108,15 @@ def reply_of(profile, request):
 # rule: Payloads from a release
 # rule: Payloads into a release
 # rule: Permitted on a track
+# rule: Place of a client
 # rule: Quote
 # rule: Rollback of a key
 # rule: Stone
 # rule: Table of a key
 # rule: Tables of a plan
 # rule: Target of a track
+# rule: Upward
+# rule: Version of a client's string
 # rule: Window of a release
 def compare(program, folder, source):
     """Compares the replies of a random catalogue, and returns how many offers they have."""

@@ -1,8 +1,8 @@
-//! Worked rows of catalogues: versions, what is found by its name, what is permitted from a client's place, the files of
-//! packages, and tables of prices, made by several threads, and kept by editions and reviews; and calls without memory.
+//! Worked rows of catalogues: the order of versions, the files of packages, and tables of prices, made by several threads,
+//! and kept by editions and reviews; and calls without memory.
 //!
 //! It has tests alone, so that the libraries below are proved once. What profiles and scripts are read as, what they are
-//! rejected for, how a catalogue is written, certificates, and what clients with pins are offered are in rows of the program.
+//! rejected for, how a catalogue is written, certificates, and what clients are offered are in rows of the program.
 
 #![tactic(auto)]
 
@@ -13,17 +13,11 @@ mod errors;
 #[cfg(test)]
 mod file_tests;
 #[cfg(test)]
-mod finders;
-#[cfg(test)]
 mod findings;
 #[cfg(test)]
 mod kept;
 #[cfg(test)]
-mod limits;
-#[cfg(test)]
 mod out_of_memory_tests;
-#[cfg(test)]
-mod places;
 #[cfg(test)]
 mod reviewed;
 #[cfg(test)]

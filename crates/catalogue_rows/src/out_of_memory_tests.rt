@@ -3,14 +3,16 @@
 // In the gate no allocation fails. `make allocations` lets each one of a test fail in turn, so of two tries one fails at most.
 
 use crate::kept::builds;
-use catalogue::{Batch, Catalogue, Refused};
-use fixtures::{DEMO, catalogue_of_profile, catalogue_of_script, keep};
+use catalogue::Catalogue;
+use fixtures::{
+    DEMO, catalogue_in_place, catalogue_of_copied_batch, catalogue_of_profile, catalogue_of_script,
+    copy_of_catalogue, keep,
+};
 use par_tables::{Free, build_for};
 use price_cert::Certified;
-use profile_toml::read_profile;
 use std::alloc::Global;
 use std::thread::Threads;
-use values::{Items, ReadError};
+use values::Items;
 
 // Whether one of two tries came to what it should, and none to anything else; `None` is a try that ran out of memory.
 fn are_right(first: Option<bool>, second: Option<bool>) -> bool {
@@ -55,23 +57,6 @@ codebase = "http://m0.example/p/"
 name = "m0"
 "#;
 
-fn batch_of(alloc: Global, profile: &str) -> Option<Batch> {
-    match read_profile(alloc, profile.as_bytes()) {
-        Ok((batch, _mirrors)) => Some(batch),
-        Err(_) => None,
-    }
-}
-
-fn applied(alloc: Global, batch: &Batch) -> Option<Catalogue> {
-    Catalogue::empty(alloc).applied(batch).ok()
-}
-
-/// The catalogue of a profile, `None` if that is rejected.
-pub(crate) fn catalogue_of(alloc: Global, profile: &str) -> Option<Catalogue> {
-    let batch = batch_of(alloc, profile)?;
-    applied(alloc, &batch)
-}
-
 // Whether a catalogue has the app with its releases and its differential.
 fn is_made(catalogue: &Catalogue) -> bool {
     catalogue.apps().len() == 1
@@ -80,19 +65,9 @@ fn is_made(catalogue: &Catalogue) -> bool {
         && catalogue.package("demo-2.0.bin").is_some()
 }
 
-// Applies a batch, and again if memory ran out and nothing was changed.
-fn apply_again(catalogue: &mut Catalogue, batch: &Batch) -> Result<(), ReadError<Refused>> {
-    match catalogue.apply(batch) {
-        Err(ReadError::Memory) if catalogue.apps().is_empty() => catalogue.apply(batch),
-        applied => applied,
-    }
-}
-
+// Whether a profile's batch makes its catalogue in place.
 fn applies(alloc: Global) -> Option<bool> {
-    let batch = batch_of(alloc, WRITTEN)?;
-    let mut catalogue = Catalogue::empty(alloc);
-    let applied = apply_again(&mut catalogue, &batch);
-    Some(applied.is_ok() && is_made(&catalogue))
+    Some(is_made(catalogue_in_place(alloc, WRITTEN)?))
 }
 
 // rule: Batch
@@ -104,8 +79,8 @@ fn apply_without_memory(rt: HostRuntime) {
 // Whether a catalogue's copy is like it.
 fn copies_catalogue(alloc: Global) -> Option<bool> {
     let catalogue = catalogue_of_profile(alloc, WRITTEN)?;
-    let copy = catalogue.copy().ok()?;
-    Some(is_made(&copy) && is_made(catalogue))
+    let copy = copy_of_catalogue(alloc, catalogue)?;
+    Some(is_made(copy) && is_made(catalogue))
 }
 
 #[test]
@@ -115,8 +90,7 @@ fn catalogue_copy_without_memory(rt: HostRuntime) {
 
 // Whether the copy of a batch makes the catalogue that the batch makes.
 fn copies_batch(alloc: Global) -> Option<bool> {
-    let copy = batch_of(alloc, WRITTEN)?.copy().ok()?;
-    Some(is_made(&applied(alloc, &copy)?))
+    Some(is_made(catalogue_of_copied_batch(alloc, WRITTEN)?))
 }
 
 #[test]

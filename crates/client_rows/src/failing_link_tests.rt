@@ -1,6 +1,6 @@
 // Posts and downloads whose source or sink fails at one call, whichever it is.
 
-use crate::links::{ask, read_reply, request_of};
+use crate::links::{ask, request_of};
 use http_memory::{Input, Output};
 use std::alloc::Global;
 
@@ -65,18 +65,6 @@ fn a_link_reports_each_failed_read(rt: HostRuntime) {
     for (kind, reply, body, piece, reads) in READS {
         let count = count_reads(rt.alloc(), kind, reply, body, piece);
         assert!(rt; count == Some(reads), "{kind}, {piece} bytes a read");
-    }
-}
-
-// rule: Chunked body that is rejected
-// rule: Reply that a link reads
-#[test]
-fn a_chunked_reply_that_is_cut_is_ended(rt: HostRuntime) {
-    for count in 0..CHUNKED.len() {
-        for piece in [1, 1000] {
-            let came = read_reply(rt.alloc(), "post", &CHUNKED[..count], piece, b"");
-            assert!(rt; came == "ended", "{count} bytes");
-        }
     }
 }
 

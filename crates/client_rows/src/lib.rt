@@ -1,7 +1,7 @@
 //! Rows of a client: what it reads of replies, how it posts and downloads over devices that give and take pieces, and how
 //! far it goes, whatever call of a device, its link or its installer fails.
 //!
-//! `replies` has what is read of replies whose bytes and records were worked out by hand; `address_tests`, `link_tests` and
+//! `replies` has what is read of replies whose bytes and records were worked out by hand; `link_tests` and
 //! `failing_link_tests` posts and downloads; `walks`, `failing_walks` and `out_of_memory_tests` an update client over
 //! memory, and what its downloads hold.
 //!
@@ -10,8 +10,6 @@
 
 #![tactic(auto)]
 
-#[cfg(test)]
-mod address_tests;
 #[cfg(test)]
 mod body;
 #[cfg(test)]

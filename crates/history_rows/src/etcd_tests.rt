@@ -6,6 +6,7 @@ use crate::calls::follows;
 use etcd_records::{
     EtcdRecords, EtcdStore, EtcdTurn, Exchange, Gateway, GatewayFault, MemoryGateway, Response,
 };
+use kept_records::Records;
 use std::alloc::Global;
 use std::cell::RefCell;
 use streams::Trace;
@@ -54,9 +55,19 @@ dropped dropped | | 1 p:A=unknown 2 s:B=ok 1 n=s:B p:A=ok 2 n=p:A
 dropped lost | unsent unsent | 1 p:A=unknown 2 s:B=failed n=p:A 1 n=p:A n=none
 | lost | 1 p:A=ok 2 p:A=ok 1 n=none s:B=ok 2 n=s:B";
 
+fn responding(alloc: Global, status: u16, body: &str) -> Option<EtcdTurn> {
+    let body = Text::copy_of(alloc, body).ok()?;
+    Some(EtcdTurn::Responds(status, body))
+}
+
+fn yielding(alloc: Global, value: &str) -> Option<EtcdTurn> {
+    let value = Text::copy_of(alloc, value).ok()?;
+    Some(EtcdTurn::Yields(value))
+}
+
 fn turn_of(alloc: Global, word: &str) -> Option<EtcdTurn> {
     if let Some(value) = word.strip_prefix("other=") {
-        return Some(EtcdTurn::Yields(Text::copy_of(alloc, value).ok()?));
+        return yielding(alloc, value);
     }
     if let Some(status) = word.strip_prefix("done") {
         return Some(EtcdTurn::RespondsAfter(status.parse().ok()?));
@@ -66,9 +77,9 @@ fn turn_of(alloc: Global, word: &str) -> Option<EtcdTurn> {
         "lost" => Some(EtcdTurn::LosesReply),
         "dropped" => Some(EtcdTurn::LosesRequest),
         "unsent" => Some(EtcdTurn::Unsent),
-        "garbled" => Some(EtcdTurn::Responds(200, Text::copy_of(alloc, "<html>").ok()?)),
-        "empty" => Some(EtcdTurn::Responds(200, Text::copy_of(alloc, "{}").ok()?)),
-        status => Some(EtcdTurn::Responds(status.parse().ok()?, Text::copy_of(alloc, "").ok()?)),
+        "garbled" => responding(alloc, 200, "<html>"),
+        "empty" => responding(alloc, 200, "{}"),
+        status => responding(alloc, status.parse().ok()?, ""),
     }
 }
 
@@ -82,25 +93,24 @@ fn turns_of(alloc: Global, words: &str) -> Option<Vec<EtcdTurn>> {
     Some(turns)
 }
 
-type Handle<'a> = EtcdRecords<MemoryGateway<'a>>;
-
-// A handle of at most six bytes, which posts each request at most twice.
-fn open<'a>(alloc: Global, store: &'a RefCell<EtcdStore>, words: &str) -> Option<Handle<'a>> {
-    let gateway = MemoryGateway::new(store, turns_of(alloc, words)?);
-    let prefix = Text::copy_of(alloc, "omaha/").ok()?;
-    match EtcdRecords::open(alloc, gateway, 2, prefix, 6) {
+// A handle of at most six bytes, which posts each request at most so many times.
+fn open<G: Gateway + Drop>(
+    alloc: Global,
+    gateway: G,
+    attempts: u32,
+    prefix: &str,
+) -> Option<EtcdRecords<G>> {
+    let Ok(prefix) = Text::copy_of(alloc, prefix) else {
+        return None;
+    };
+    match EtcdRecords::open(alloc, gateway, attempts, prefix, 6) {
         Ok((records, _)) => Some(records),
         Err(_) => None,
     }
 }
 
 // Whether each call comes to what the row says.
-fn both_follow<'a>(
-    alloc: Global,
-    one: &mut Handle<'a>,
-    two: &mut Handle<'a>,
-    calls: &str,
-) -> Option<bool> {
+fn both_follow<R: Records>(alloc: Global, one: &mut R, two: &mut R, calls: &str) -> Option<bool> {
     let mut is_first = true;
     for word in calls.split_whitespace() {
         match word {
@@ -117,13 +127,36 @@ fn both_follow<'a>(
     Some(true)
 }
 
+// The same of handles that were opened. Its callers prove nothing of what a handle has.
+fn share<R: Records + Drop>(
+    alloc: Global,
+    one: Option<R>,
+    two: Option<R>,
+    calls: &str,
+) -> Option<bool> {
+    let (Some(one), Some(two)) = (one, two) else {
+        return None;
+    };
+    let (mut one, mut two) = (one, two);
+    both_follow(alloc, &mut one, &mut two, calls)
+}
+
+// A handle over a store, with such turns.
+fn handle_of<'a>(
+    alloc: Global,
+    store: &'a RefCell<EtcdStore>,
+    words: &str,
+) -> Option<EtcdRecords<MemoryGateway<'a>>> {
+    let turns = turns_of(alloc, words)?;
+    open(alloc, MemoryGateway::new(store, turns), 2, "omaha/")
+}
+
 fn is_so(alloc: Global, row: &str) -> Option<bool> {
     let (first, rest) = row.split_once('|')?;
     let (second, calls) = rest.split_once('|')?;
     let store = RefCell::new(EtcdStore::new(alloc));
-    let mut one = open(alloc, &store, first)?;
-    let mut two = open(alloc, &store, second)?;
-    both_follow(alloc, &mut one, &mut two, calls)
+    let one = handle_of(alloc, &store, first);
+    share(alloc, one, handle_of(alloc, &store, second), calls)
 }
 
 // rule: Append to etcd
@@ -162,10 +195,13 @@ const READ: &str = "{\"key\":\"aGlzdG9yeS8wMDAwMDAwMQ==\"}";
 
 const READ_TWO: &str = "{\"key\":\"aGlzdG9yeS8wMDAwMDAwMg==\"}";
 
+// A path, what is posted to it, and the reply.
+type Posted<'a> = (&'a str, &'a str, &'a str);
+
 // Replies these strings to these requests, in order, and nothing to any other.
 #[derive(Drop)]
 struct Script<'a> {
-    rows: &'a [(&'a str, &'a str, &'a str)],
+    rows: &'a [Posted<'a>],
     exchanges: Trace<Exchange>,
 }
 
@@ -200,22 +236,60 @@ impl Gateway for Script<'_> {
     }
 }
 
+// Whether records make these calls, if there are any.
+fn follows_opened<R: Records + Drop>(
+    alloc: Global,
+    records: Option<R>,
+    calls: &str,
+) -> Option<bool> {
+    let mut records = records?;
+    follows(&mut records, alloc, calls)
+}
+
 // Whether a handle that is opened by the rows then makes these calls.
-fn follows_script(alloc: Global, rows: &[(&str, &str, &str)], calls: &str) -> Option<bool> {
+fn follows_script(alloc: Global, rows: &[Posted<'_>], calls: &str) -> Option<bool> {
     let script = Script {
         rows,
         exchanges: Trace::new(),
     };
-    let prefix = Text::copy_of(alloc, "history/").ok()?;
-    let Ok((mut records, _)) = EtcdRecords::open(alloc, script, 1, prefix, 6) else {
-        return None;
-    };
-    follows(&mut records, alloc, calls)
+    follows_opened(alloc, open(alloc, script, 1, "history/"), calls)
 }
 
 const TXN: &str = "/v3/kv/txn";
 
 const RANGE: &str = "/v3/kv/range";
+
+// What is posted and replied, the calls of the handle, and whether it makes them; `None` if it isn't opened.
+const SCRIPTS: [(&[Posted<'static>], &str, Option<bool>); 4] = [
+    (
+        &[
+            (RANGE, READ, NONE),
+            (TXN, APPEND, CREATED),
+            (RANGE, READ_TWO, NONE),
+        ],
+        "p:x=ok n=none",
+        Some(true),
+    ),
+    (
+        &[
+            (RANGE, READ, NONE),
+            (TXN, APPEND, HELD),
+            (RANGE, READ, FOUND),
+        ],
+        "p:x=taken n=p:x",
+        Some(true),
+    ),
+    (
+        &[
+            (RANGE, READ, FOUND),
+            (RANGE, READ_TWO, NONE),
+            (RANGE, READ_TWO, NONE),
+        ],
+        "n=none",
+        Some(true),
+    ),
+    (&[(RANGE, READ, FOUND)], "", None),
+];
 
 // rule: Requests to etcd
 // rule: Reply of etcd
@@ -224,24 +298,10 @@ const RANGE: &str = "/v3/kv/range";
 // rule: Opened history in etcd
 #[test]
 fn speaks_as_etcd_does(rt: HostRuntime) {
-    let alloc = rt.alloc();
-    let appends = [
-        (RANGE, READ, NONE),
-        (TXN, APPEND, CREATED),
-        (RANGE, READ_TWO, NONE),
-    ];
-    assert!(rt; follows_script(alloc, &appends, "p:x=ok n=none") == Some(true));
-    let taken = [
-        (RANGE, READ, NONE),
-        (TXN, APPEND, HELD),
-        (RANGE, READ, FOUND),
-    ];
-    assert!(rt; follows_script(alloc, &taken, "p:x=taken n=p:x") == Some(true));
-    let opened = [
-        (RANGE, READ, FOUND),
-        (RANGE, READ_TWO, NONE),
-        (RANGE, READ_TWO, NONE),
-    ];
-    assert!(rt; follows_script(alloc, &opened, "n=none") == Some(true));
-    assert!(rt; follows_script(alloc, &opened[..1], "") == None);
+    for (rows, calls, wanted) in SCRIPTS {
+        assert!(rt;
+            follows_script(rt.alloc(), rows, calls) == wanted,
+            "{calls}"
+        );
+    }
 }

@@ -1,7 +1,7 @@
 // Sessions whose source, sink or packages fail at one call, whichever it is.
 
 use crate::desks::{FILES, letters};
-use crate::session_tests::{serve_over, serve_sent};
+use crate::session_tests::serve_over;
 use http_memory::{Connection, Input, Output, Shelf};
 
 // A post that is echoed, whose body looks like a head, a download, and a message to no path.
@@ -14,45 +14,15 @@ const WRITTEN: &[u8] =
 // Where each message ends, and its reply.
 const ENDS: [(usize, usize); 3] = [(61, 83), (93, 164), (111, 209)];
 
-// The replies to the messages that are whole in so many bytes, how many these are, and how a connection of these bytes ends.
-fn replies_to(read: usize) -> (&'static [u8], u32, &'static str) {
-    let mut how = if read == 0 { "finished" } else { "unfinished" };
-    let (mut end, mut count) = (0, 0u32);
+// The replies to the messages that are whole in so many bytes.
+fn replies_to(read: usize) -> &'static [u8] {
+    let mut end = 0;
     for (message, reply) in ENDS {
         if message <= read {
             end = reply;
-            count = count.saturating_add(1);
-            how = if message == read {
-                "finished"
-            } else {
-                "unfinished"
-            };
         }
     }
-    (WRITTEN.get(..end).unwrap_or(b""), count, how)
-}
-
-// Whether a connection that sends these bytes gets the replies to the messages that are whole in them.
-fn is_served_before(rt: &HostRuntime, sent: &[u8], piece: usize) -> bool {
-    let (replies, count, how) = replies_to(sent.len());
-    serve_sent(rt, sent, piece, replies) == ((count, how), true)
-}
-
-// How many bytes come before the first cut at which it doesn't; `None` if there is none.
-fn wrong_cut(rt: &HostRuntime, piece: usize) -> Option<usize> {
-    for end in 0..=SENT.len() {
-        if !is_served_before(rt, &SENT[..end], piece) {
-            return Some(end);
-        }
-    }
-    None
-}
-
-// rule: End of a session
-#[test]
-fn replies_to_whole_messages_before_each_cut(rt: HostRuntime) {
-    let wrong = [wrong_cut(&rt, 1), wrong_cut(&rt, 7), wrong_cut(&rt, 1000)];
-    assert!(rt; wrong == [None; 3]);
+    WRITTEN.get(..end).unwrap_or(b"")
 }
 
 // How a session ends one of whose reads fails after so many; whether the connection gets the replies to what was read
@@ -64,8 +34,7 @@ fn fail_read(rt: &HostRuntime, piece: usize, good: usize) -> ((u32, &'static str
     let mut connection = Connection { input, output };
     let ended = serve_over(rt, &FILES, &mut connection);
     let read = SENT.len().saturating_sub(connection.input.left.len());
-    let (replies, _, _) = replies_to(read);
-    (ended, connection.output.bytes.as_slice() == replies)
+    (ended, connection.output.bytes.as_slice() == replies_to(read))
 }
 
 // Lets each read of a session fail until none does, and returns how many there are; `None` if a connection gets anything

@@ -15,8 +15,6 @@ mod device_tests;
 #[cfg(test)]
 mod failing_session_tests;
 #[cfg(test)]
-mod folder_tests;
-#[cfg(test)]
 mod lines;
 #[cfg(test)]
 mod peers;

@@ -138,8 +138,8 @@ pub(crate) fn serve_over<R: AllocGlobal>(
     end_of(serve(rt, input, output, &mut desk, packages, &STOPPED))
 }
 
-/// How the session of a connection that gives and takes so many bytes a call ends, and whether it gets these replies.
-pub(crate) fn serve_sent(
+// How the session of a connection that gives and takes so many bytes a call ends, and whether it gets these replies.
+fn serve_sent(
     rt: &HostRuntime,
     sent: &[u8],
     piece: usize,
