@@ -1,8 +1,10 @@
 //! Worked rows of catalogues: the order of versions, the files of packages, and tables of prices, made by several threads,
-//! and kept by editions and reviews; and calls without memory.
+//! and kept by editions and reviews; calls without memory; and what a server's threads share: what is published to views,
+//! also by two threads, and budgets that two workers ask for while they are raised.
 //!
 //! It has tests alone, so that the libraries below are proved once. What profiles and scripts are read as, what they are
-//! rejected for, how a catalogue is written, certificates, and what clients are offered are in rows of the program.
+//! rejected for, how a catalogue is written, certificates, what a server replies, and what its operator's
+//! desk keeps are in rows of the program.
 
 #![tactic(auto)]
 
@@ -19,8 +21,14 @@ mod kept;
 #[cfg(test)]
 mod out_of_memory_tests;
 #[cfg(test)]
+mod raising;
+#[cfg(test)]
 mod reviewed;
 #[cfg(test)]
 mod shelf;
 #[cfg(test)]
+mod two_publishers;
+#[cfg(test)]
 mod version_tests;
+#[cfg(test)]
+mod view_tests;

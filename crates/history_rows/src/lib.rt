@@ -14,8 +14,6 @@ mod crash_tests;
 #[cfg(test)]
 mod disk;
 #[cfg(test)]
-mod etcd_path_tests;
-#[cfg(test)]
 mod etcd_tests;
 #[cfg(test)]
 mod file_tests;
