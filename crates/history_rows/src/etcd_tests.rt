@@ -134,10 +134,9 @@ fn share<R: Records + Drop>(
     two: Option<R>,
     calls: &str,
 ) -> Option<bool> {
-    let (Some(one), Some(two)) = (one, two) else {
+    let (Some(mut one), Some(mut two)) = (one, two) else {
         return None;
     };
-    let (mut one, mut two) = (one, two);
     both_follow(alloc, &mut one, &mut two, calls)
 }
 
