@@ -34,7 +34,10 @@ fn fail_read(rt: &HostRuntime, piece: usize, good: usize) -> ((u32, &'static str
     let mut connection = Connection { input, output };
     let ended = serve_over(rt, &FILES, &mut connection);
     let read = SENT.len().saturating_sub(connection.input.left.len());
-    (ended, connection.output.bytes.as_slice() == replies_to(read))
+    (
+        ended,
+        connection.output.bytes.as_slice() == replies_to(read),
+    )
 }
 
 // Lets each read of a session fail until none does, and returns how many there are; `None` if a connection gets anything
