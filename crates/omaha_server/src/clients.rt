@@ -24,7 +24,6 @@ use systems::System;
 use worker_threads::portion_of;
 
 /// What a worker came to.
-#[derive(Drop)]
 pub(crate) struct Visited<P> {
     /// Its port, and its end of the log.
     pub(crate) served: Served<P>,
@@ -32,8 +31,25 @@ pub(crate) struct Visited<P> {
     pub(crate) view: View,
 }
 
+// Written out, so that no caller proves again how each part is dropped.
+impl<P: Drop> Drop for Visited<P> {
+    fn drop(self) {
+        let Visited { served: _, view: _ } = self;
+    }
+}
+
+impl<P> Visited<P> {
+    /// Gives both.
+    pub(crate) fn into_parts(self) -> (Served<P>, View)
+        ensures served { result.0 ≡ self.served }
+        ensures view { result.1 ≡ self.view }
+    {
+        let Visited { served, view } = self;
+        (served, view)
+    }
+}
+
 /// The connections that a worker serves, as the job of its thread.
-#[derive(Drop)]
 pub(crate) struct Clients<'s, 'a, S, R, P: Port> {
     /// What they are served with.
     pub(crate) setup: &'s Setup<'a, S, R>,
@@ -45,6 +61,19 @@ pub(crate) struct Clients<'s, 'a, S, R, P: Port> {
     pub(crate) lines: Option<NewSender>,
     /// The worker's number, from 0.
     pub(crate) number: usize,
+}
+
+// Written out, so that no caller proves again how each part is dropped.
+impl<S, R, P: Port + Drop> Drop for Clients<'_, '_, S, R, P> {
+    fn drop(self) {
+        let Clients {
+            setup: _,
+            port: _,
+            view: _,
+            lines: _,
+            number: _,
+        } = self;
+    }
 }
 
 // rule: Sessions of a server

@@ -7,9 +7,15 @@ use access_logs::LineSender;
 use std::marker::Model;
 
 /// A sender to the log that has sent nothing; contracts see the sender.
-#[derive(Drop)]
 pub(crate) struct NewSender {
     lines: LineSender,
+}
+
+// Written out, so that no caller proves again how each part is dropped.
+impl Drop for NewSender {
+    fn drop(self) {
+        let NewSender { lines: _ } = self;
+    }
 }
 
 impl Model for NewSender {

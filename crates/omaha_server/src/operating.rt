@@ -87,7 +87,6 @@ impl<S, R: Threads + Wait + AllocGlobal, P: Port + Drop, K: Drop> Operating<'_, 
 }
 
 /// What the operator came to.
-#[derive(Drop)]
 pub(crate) struct Operated<P> {
     /// The port, and its end of the log, if there is an operator.
     pub(crate) served: Option<Served<P>>,
@@ -95,6 +94,33 @@ pub(crate) struct Operated<P> {
     pub(crate) left: Result<Receipt, AllocError>,
     /// Whether the server was asked to end.
     pub(crate) ending: bool,
+}
+
+// Written out, so that no caller proves again how each part is dropped.
+impl<P: Drop> Drop for Operated<P> {
+    fn drop(self) {
+        let Operated {
+            served: _,
+            left: _,
+            ending: _,
+        } = self;
+    }
+}
+
+impl<P> Operated<P> {
+    /// Gives all three.
+    pub(crate) fn into_parts(self) -> (Option<Served<P>>, Result<Receipt, AllocError>, bool)
+        ensures served { result.0 ≡ self.served }
+        ensures left { result.1 ≡ self.left }
+        ensures ending { result.2 ≡ self.ending }
+    {
+        let Operated {
+            served,
+            left,
+            ending,
+        } = self;
+        (served, left, ending)
+    }
 }
 
 // The operator's port that was served, when it began, and whether the server was asked to end.

@@ -20,7 +20,6 @@ use std::alloc::{AllocError, Global};
 use streams::Trace;
 
 /// What jobs that all began came to.
-#[derive(Drop)]
 pub(crate) struct Ended<E, F> {
     /// What each worker's job came to, in order.
     pub(crate) clients: Vec<E>,
@@ -28,6 +27,33 @@ pub(crate) struct Ended<E, F> {
     pub(crate) own: F,
     /// Each mirror's total in bytes.
     pub(crate) totals: Vec<u64>,
+}
+
+// Written out, so that no caller proves again how each part is dropped.
+impl<E: Drop, F: Drop> Drop for Ended<E, F> {
+    fn drop(self) {
+        let Ended {
+            clients: _,
+            own: _,
+            totals: _,
+        } = self;
+    }
+}
+
+impl<E, F> Ended<E, F> {
+    // Gives all three.
+    fn into_parts(self) -> (Vec<E>, F, Vec<u64>)
+        ensures clients { result.0 ≡ self.clients }
+        ensures own { result.1 ≡ self.own }
+        ensures totals { result.2 ≡ self.totals }
+    {
+        let Ended {
+            clients,
+            own,
+            totals,
+        } = self;
+        (clients, own, totals)
+    }
 }
 
 // What each job came to, if all began.
@@ -79,7 +105,6 @@ pub(crate) fn ends_of<J: TillJob + Drop, O: BudgetJob>(
 }
 
 /// The ports of a server that was served, and the mirrors' totals.
-#[derive(Drop)]
 pub(crate) struct Run<P> {
     /// The ports.
     pub(crate) ports: ServedPorts<P>,
@@ -87,11 +112,49 @@ pub(crate) struct Run<P> {
     pub(crate) totals: Vec<u64>,
 }
 
+// Written out, so that no caller proves again how each part is dropped.
+impl<P: Drop> Drop for Run<P> {
+    fn drop(self) {
+        let Run {
+            ports: _,
+            totals: _,
+        } = self;
+    }
+}
+
+impl<P> Run<P> {
+    /// Gives both.
+    pub(crate) fn into_parts(self) -> (ServedPorts<P>, Vec<u64>)
+        ensures ports { result.0 ≡ self.ports }
+        ensures totals { result.1 ≡ self.totals }
+    {
+        let Run { ports, totals } = self;
+        (ports, totals)
+    }
+}
+
 // Ports and their ends of the log, in the same order.
-#[derive(Drop)]
 struct Kept<P> {
     ports: Vec<ServedPort<P>>,
     log: Vec<EndedSender>,
+}
+
+// Written out, so that no caller proves again how each part is dropped.
+impl<P: Drop> Drop for Kept<P> {
+    fn drop(self) {
+        let Kept { ports: _, log: _ } = self;
+    }
+}
+
+impl<P> Kept<P> {
+    // Gives both.
+    fn into_parts(self) -> (Vec<ServedPort<P>>, Vec<EndedSender>)
+        ensures ports { result.0 ≡ self.ports }
+        ensures log { result.1 ≡ self.log }
+    {
+        let Kept { ports, log } = self;
+        (ports, log)
+    }
 }
 
 // Keeps one more port.
@@ -99,7 +162,7 @@ fn keep<P: Drop>(kept: &mut Kept<P>, served: Served<P>) -> Result<(), AllocError
     ensures port { IfOk result (λ _. kept.new.ports.items ≡ kept.old.ports.items ++ served.port ∷ []) }
     ensures log { IfOk result (λ _. kept.new.log.items ≡ kept.old.log.items ++ option_to_list served.log) }
 {
-    let Served { port, log } = served;
+    let (port, log) = served.into_parts();
     kept.ports.push(port)?;
     if let Some(ended) = log {
         kept.log.push(ended)?;
@@ -123,7 +186,7 @@ fn published_ports<P: Drop>(
         log: Vec::new(alloc),
     };
     for visited in clients {
-        let Visited { served, view } = visited;
+        let (served, view) = visited.into_parts();
         if !may_enter(view, left) {
             return Err(ServerError::Unpublished);
         }
@@ -194,7 +257,10 @@ fn parts_of<P: Drop>(operator: Option<Served<P>>) -> (Option<ServedPort<P>>, Opt
     ensures log { result.1 ≡ log_at operator }
 {
     match operator {
-        Some(Served { port, log }) => (Some(port), log),
+        Some(served) => {
+            let (port, log) = served.into_parts();
+            (Some(port), log)
+        }
         None => (None, None),
     }
 }
@@ -210,22 +276,12 @@ pub(crate) fn published_run<P: Port + Drop>(
     ensures senders { IfOk result (λ made. made.1.items ≡ made.0.ports.log) }
     ensures err { IfErr result (λ error. (error ≡ Unpublished) ⊎ (error ≡ EndedEarly) ⊎ (error ≡ Memory)) }
 {
-    let Ended {
-        clients,
-        own: Operated {
-            served,
-            left,
-            ending,
-        },
-        totals,
-    } = ended;
+    let (clients, own, totals) = ended.into_parts();
+    let (served, left, ending) = own.into_parts();
     let Ok(left) = left else {
         return Err(ServerError::Memory);
     };
-    let Kept {
-        ports: clients,
-        log,
-    } = published_ports(alloc, clients, &left)?;
+    let (clients, log) = published_ports(alloc, clients, &left)?.into_parts();
     let (operator, own) = parts_of(served);
     let Ok(senders) = with_operators(log, own) else {
         return Err(ServerError::Memory);

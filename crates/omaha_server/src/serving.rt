@@ -23,7 +23,6 @@ use crate::logging::Outlets;
 use crate::notes::Notes;
 use crate::place::Place;
 use crate::ports::ServedPorts;
-use crate::running::Run;
 use crate::setup::Setup;
 use crate::traffic::Traffic;
 use access_logs::Page;
@@ -147,7 +146,8 @@ fn serve_found<
     let Service { edition, mirrors } = service;
     let (press, views) = open_views(rt, rt.alloc(), edition, place.workers)?;
     let publishing = Publishing { press, records };
-    let Run { ports, totals } = serve_press(setup, publishing, mirrors, views, gate, out, outlets)?;
+    let run = serve_press(setup, publishing, mirrors, views, gate, out, outlets)?;
+    let (ports, totals) = run.into_parts();
     match print_totals(rt.alloc(), names.as_slice(), &totals, out) {
         Ok(()) => Ok(ports),
         Err(error) => Err(error),

@@ -56,12 +56,29 @@ pub(crate) fn seconds_now<R: time::Clock>(rt: &R) -> u64 {
 }
 
 /// What a port came to that was served, and the end of its sender to the log, if it had one.
-#[derive(Drop)]
 pub(crate) struct Served<P> {
     /// The port.
     pub(crate) port: ServedPort<P>,
     /// Its sender.
     pub(crate) log: Option<EndedSender>,
+}
+
+// Written out, so that no caller proves again how each part is dropped.
+impl<P: Drop> Drop for Served<P> {
+    fn drop(self) {
+        let Served { port: _, log: _ } = self;
+    }
+}
+
+impl<P> Served<P> {
+    /// Gives both.
+    pub(crate) fn into_parts(self) -> (ServedPort<P>, Option<EndedSender>)
+        ensures port { result.0 ≡ self.port }
+        ensures log { result.1 ≡ self.log }
+    {
+        let Served { port, log } = self;
+        (port, log)
+    }
 }
 
 // Serves a port whose replies aren't logged.
