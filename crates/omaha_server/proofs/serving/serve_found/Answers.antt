@@ -40,3 +40,6 @@ returns-clause-serves g c =
 
 pub returns-in-Ok-clause-page : goal.returns-in-Ok-clause-page
 returns-in-Ok-clause-page g c = rw c.into_parts-ports.ensures.ports c.in_ok-run.ensures.page
+
+pub returns-in-Ok-clause-replies : goal.returns-in-Ok-clause-replies
+returns-in-Ok-clause-replies g c = rw c.into_parts-ports.ensures.ports c.in_ok-run.ensures.replies
