@@ -30,5 +30,5 @@ loop-visited-preserved g c =
           ∙ sym (ap those_of (map-append (λ visited. visited.served.log) at.yielded (one ∷ [])));
       allowed = All-push (λ visited. Allows visited.view c.args.left.now) at.yielded one at.invariant.allowed
           (subst (λ view. Allows view c.args.left.now) c.into_parts-served.ensures.view
-              (c.may_enter.ensures c.if-not-may_enter.false));
+          (c.may_enter.ensures c.if-not-may_enter.false));
     }
