@@ -14,7 +14,7 @@ job. `make test` leaves it to `rt`, and so ends sooner.
 Processors differ: one took half of another's time for each check. So it first runs `rt selftest`, by which the toolchain
 proves and builds an example of its own, and prints what that took beside the sums. It is the same work for one toolchain
 on any machine: divide the sums by it to compare two machines. A loop of Python doesn't serve for that: on one machine it
-took 2.9 times as long as on another one, and the proofs 1.4 times.
+took 2.9 times as long as on another one, and a large crate's proof 1.1 times.
 
 It exits with its status, whose last line it repeats.
 """
