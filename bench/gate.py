@@ -5,11 +5,11 @@
 
 It runs `rt ci` at the top of the repository, by `rt ci --anew` if the toolchain keeps what it proved and has that flag, so
 that all is proved from nothing. The output goes to FILE, by default `gate.log` in the folder for temporary files. Four
-times a second it reads the clocks of the checks that this has started, and sums them in the end: processor minutes for
-the proofs of libraries, of tests, for the must-fail edits (the first of a crate proves the crate again) and for the
-programs, and the most expensive crates of each. Where other work runs beside it, the same checks take more processor
-time. So do several jobs for one check: unless RT_JOBS is set it is the number of processors, by which each check has one
-job. `make test` leaves it to `rt`, and so ends sooner.
+times a second it reads the clocks of the checks that this has started, and of the compilers that these start, and sums
+them in the end: processor minutes for the proofs of libraries, of tests, for the must-fail edits (the first of a crate
+proves the crate again) and for the programs, and the most expensive crates of each. Where other work runs beside it, the
+same checks take more processor time. So do several jobs for one check: unless RT_JOBS is set it is the number of
+processors, by which each check has one job. `make test` leaves it to `rt`, and so ends sooner.
 
 Processors differ: one took half of another's time for each check. So it first runs `rt selftest`, by which the toolchain
 proves and builds an example of its own, and prints what that took beside the sums. It is the same work for one toolchain
@@ -76,22 +76,32 @@ def kind_of(pid, words):
     return "proof" if target.endswith(".rlib") else "program"
 
 
+def check_of(pid):
+    """What a process checks: what for, and its crate; None if it is no check."""
+    words = read(f"/proc/{pid}/cmdline").decode(errors="replace").split("\0")
+    if "--crate-name" not in words:
+        return None
+    return kind_of(pid, words), words[words.index("--crate-name") + 1]
+
+
 def checks_below(root):
-    """The checks that run below a process: its number, what it is for, its crate and its seconds so far."""
+    """The checks that run below a process, and the compilers that they started.
+
+    Of each it yields its number, what the check is for, its crate, and its own seconds so far.
+    """
     times = {int(name): parent_and_time(name) for name in os.listdir("/proc") if name.isdigit()}
-    for pid, known in times.items():
-        words = read(f"/proc/{pid}/cmdline").decode(errors="replace").split("\0")
-        if known is None or "--crate-name" not in words:
-            continue
-        above = pid
+    checks = {pid: check_of(pid) for pid, known in times.items() if known}
+    for pid in checks:
+        above, check = pid, None
         while above > 1 and above != root and times.get(above):
+            check = check or checks[above]
             above = times[above][0]
-        if above == root:
-            yield pid, kind_of(pid, words), words[words.index("--crate-name") + 1], known[1]
+        if above == root and check:
+            yield pid, *check, times[pid][1]
 
 
 def watch(gate):
-    """The seconds of each check, by what it is for and its crate, until the gate ends."""
+    """The seconds of each check and of what it started, by what it is for and its crate, until the gate ends."""
     seen = {}
     while gate.poll() is None:
         for pid, kind, crate, seconds in checks_below(gate.pid):
