@@ -43,12 +43,6 @@ pub HaveLogged-after :
 HaveLogged-after befores middles afters old between new was was_between is (rounds, some) (others, more) =
     WrittenIn-after rounds others befores middles afters old between new was was_between is some more
 
--- what was written in one round was logged
-pub HaveLogged-once :
-    (befores afters : List (List ℕ)) (old new : Known) (was is : Bool) → HaveWritten befores afters old new was is →
-    HaveLogged befores afters old new was is
-HaveLogged-once befores afters old new was is written = (1, (afters, new, is, written, (refl, refl, refl)))
-
 -- what was logged, and then written in another round, was logged
 pub HaveLogged-next :
     (befores middles afters : List (List ℕ)) (old between new : Known) (was was_between is : Bool) →

@@ -1,7 +1,6 @@
 -- Attempts one after another.
 use Rattle.std.proofs.Common.{◌≡◌, ℕ, ◌+◌, List, [], ◌∷◌, ◌++◌, length, Bool, false, true, ◌||◌, None, Result, refl, sym, ap, ◌∙◌, arith, append_assoc, length-append}
-use Rattle.std.proofs.lemmas.List.{append-nil}
-use Rattle.std.proofs.lemmas.List.Elements.{All-append, All-nil}
+use Rattle.std.proofs.lemmas.List.Elements.{All-append}
 use Rattle.std.proofs.lemmas.List.Folds.{list_any-append}
 use Rattle.std.proofs.lemmas.List.Sums.{fold-append}
 use Rattle.std.specs.List.{All}
@@ -23,16 +22,6 @@ pub record AreMissed (old new : List Exchange) (path body : List ℕ) (count : �
   pub misses : All (IsMiss path body) done
   pub cause_is : cause ≡ last_cause done
   pub doubt_is : is_doubtful ≡ in_doubt done
-
-pub none_missed : (old : List Exchange) (path body : List ℕ) → AreMissed old old path body 0 Unreachable false
-none_missed old path body = record {
-  done = [];
-  all = sym (append-nil old);
-  counted = refl;
-  misses = All-nil (IsMiss path body);
-  cause_is = refl;
-  doubt_is = refl;
-}
 
 All-one : {X : Type 0} (P : X → Type 0) (x : X) → P x → All P (x ∷ [])
 All-one P x is k d below = let first : k ≡ 0 = omega arith in rw first is

@@ -1,6 +1,5 @@
 -- What is so of the fields after an exchange, after one more record, and once the last one is forgotten.
-use Rattle.std.proofs.Common.{◌≡◌, ℕ, ◌+◌, ◌-◌, ◌<◌, ◌≤◌, List, [], ◌∷◌, ◌++◌, length, take, Option, None, Some, sym, ap, subst, ◌∙◌, arith, length-append, zero-add}
-use Rattle.std.proofs.Math.Seq.{take-append_seam}
+use Rattle.std.proofs.Common.{◌≡◌, ℕ, ◌+◌, ◌-◌, ◌<◌, ◌≤◌, List, [], ◌∷◌, ◌++◌, length, Option, None, Some, sym, ap, subst, ◌∙◌, arith, length-append, zero-add}
 use Rattle.std.proofs.lemmas.List.Sums.{sum_by-append}
 use Rattle.kept_records.specs.Keeping.{bytes_in}
 use Rattle.kept_records.specs.declared.record.Record.{Record}
@@ -56,9 +55,3 @@ forgotten exchanges prefix count left limit marks last was = record {
   shown = AreShown-first exchanges prefix marks last.mark was.shown;
   before = tt;
 }
-
--- the known records without the last one
-pub first-ones : (marks : List Record) (last : Record) → marks ≡ take (length (marks ++ last ∷ []) - 1) (marks ++ last ∷ [])
-first-ones marks last =
-    let many : length (marks ++ last ∷ []) - 1 ≡ length marks = omega (arith, length-append marks (last ∷ [])) in
-    sym (ap (λ (n : ℕ). take n (marks ++ last ∷ [])) many ∙ take-append_seam marks (last ∷ []))

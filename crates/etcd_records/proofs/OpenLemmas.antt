@@ -1,6 +1,5 @@
 -- Reading all records, one after another.
-use Rattle.std.proofs.Common.{◌≡◌, ℕ, ◌+◌, List, [], ◌∷◌, ◌++◌, length, Option, Some, None, Result, Ok, Err, refl, sym, ap, subst, ◌∙◌, inl, inr, append_assoc, length-append}
-use Rattle.std.proofs.lemmas.List.{append-nil}
+use Rattle.std.proofs.Common.{◌≡◌, ℕ, ◌+◌, List, [], ◌++◌, length, Option, Some, None, Result, Ok, Err, refl, sym, subst, inl, inr}
 use Rattle.kept_records.specs.Keeping.{Learns}
 use Rattle.kept_records.specs.declared.fault.Cause.TheVariants.{Memory}
 use Rattle.kept_records.specs.declared.fault.ReadFault.{ReadFault}
@@ -22,44 +21,6 @@ pub record AreRead {G : Type 0} (exchanges : G → List Exchange) (old now : Han
   pub counted : length all ≡ count
   pub same : IsSameBut old now
   pub goes_on : GoesOn (exchanges old.gateway) (exchanges now.gateway)
-
-IsSameBut-trans : {G : Type 0} (old mid new : Handle G) → IsSameBut old mid → IsSameBut mid new → IsSameBut old new
-IsSameBut-trans old mid new one two = record {
-  attempts = two.attempts ∙ one.attempts;
-  prefix = two.prefix ∙ one.prefix;
-  limit = two.limit ∙ one.limit;
-}
-
-GoesOn-trans : (old mid new done : List Exchange) → GoesOn old mid → new ≡ mid ++ done → GoesOn old new
-GoesOn-trans old mid new done one is = (one.0 ++ done, is ∙ ap (λ it. it ++ done) one.1 ∙ append_assoc old one.0 done)
-
-pub none_read : {G : Type 0} (exchanges : G → List Exchange) (old : Handle G) → old.kept ≡ []
-    → AreRead exchanges old old [] 0
-none_read exchanges old none = record {
-  known = none;
-  counted = refl;
-  same = record { attempts = refl; prefix = refl; limit = refl };
-  goes_on = ([], sym (append-nil (exchanges old.gateway)));
-}
-
--- one more record
-pub one_read : {G : Type 0} (exchanges : G → List Exchange) (old mid new : Handle G) (all : List Record) (count : ℕ) (next : Record) (done : List Exchange)
-    → AreRead exchanges old mid all count → new.kept ≡ mid.kept ++ next ∷ [] → IsSameBut mid new
-    → exchanges new.gateway ≡ exchanges mid.gateway ++ done
-    → AreRead exchanges old new (all ++ next ∷ []) (count + 1)
-one_read exchanges old mid new all count next done was learned same grown = record {
-  known = learned ∙ ap (λ it. it ++ next ∷ []) was.known;
-  counted = length-append all (next ∷ []) ∙ ap (λ n. n + 1) was.counted;
-  same = IsSameBut-trans old mid new was.same same;
-  goes_on = GoesOn-trans (exchanges old.gateway) (exchanges mid.gateway) (exchanges new.gateway) done was.goes_on grown;
-}
-
--- what stays after a call that learns nothing
-pub goes_on_past : {G : Type 0} (exchanges : G → List Exchange) (old mid new : Handle G) (all : List Record) (count : ℕ) (done : List Exchange)
-    → AreRead exchanges old mid all count → IsSameBut mid new → exchanges new.gateway ≡ exchanges mid.gateway ++ done
-    → IsSameBut old new × GoesOn (exchanges old.gateway) (exchanges new.gateway)
-goes_on_past exchanges old mid new all count done was same grown =
-    (IsSameBut-trans old mid new was.same same, GoesOn-trans (exchanges old.gateway) (exchanges mid.gateway) (exchanges new.gateway) done was.goes_on grown)
 
 not_none : (fault : ReadFault) → (let read : Result (Option Record) ReadFault = Ok None in read ≡ Err fault) → ⊥
 not_none fault is = cc

@@ -1,17 +1,14 @@
 -- What statements make of a history, and what a crash leaves of it.
-use Rattle.std.proofs.Common.{◌≡◌, ◌∙◌, ◌+◌, ◌++◌, List, [], ◌∷◌, ap, arith, false, inl, inr, length, map, subst, sym, true, ℕ}
+use Rattle.std.proofs.Common.{◌≡◌, ◌∙◌, ◌+◌, ◌++◌, List, [], ◌∷◌, ap, arith, false, inl, inr, length, subst, sym, ℕ}
 use Rattle.std.proofs.lemmas.List.Sums.{sum_by-append}
-use Rattle.std.specs.List.Sorted.{IsPermutation}
-use Rattle.std.specs.Prelude.{IsTrue}
 use Rattle.kept_records.specs.Keeping.{bytes_in}
 use Rattle.kept_records.specs.declared.record.Record.{Record}
 use Rattle.sqlite.specs.Effect.{Database}
-use Rattle.sqlite.specs.Order.{Row}
-use Rattle.sqlite.specs.State.{HasCleanDisk, IsUnchanged, Opens, Shows, State}
+use Rattle.sqlite.specs.State.{HasCleanDisk, State}
 use Rattle.sqlite.specs.Tree.{Trees}
-use Rattle.history.proofs.RowLemmas.{Holds-append, Holds-nil}
-use Rattle.history.specs.Holdings.{CrashLeaves, Holds, IsAsBefore, IsHistory, IsInside, Keeps, Leads, LeavesEither}
-use Rattle.history.specs.Tables.{entries_from, history_schema, shown_row, stored_row}
+use Rattle.history.proofs.RowLemmas.{Holds-append}
+use Rattle.history.specs.Holdings.{CrashLeaves, Holds, IsHistory, Keeps, Leads, LeavesEither}
+use Rattle.history.specs.Tables.{history_schema, stored_row}
 
 -- an open store leaves its last commit alone
 abbrev pub IsSettled : State → Type 0
@@ -30,28 +27,6 @@ pub history_appended : (old new : State) (first : ℕ) (kept : List Record) (las
 history_appended old new first kept last is leads added =
     history_of old new first (kept ++ last ∷ []) is.autocommit leads
     (Holds-append old.now.trees new.now.trees first kept last is.holds added)
-
--- nothing was changed
-history_same : (old new : State) (first : ℕ) (kept : List Record) → IsHistory old first kept → IsTrue new.is_open → new.now ≡ old.now
-    → new.committed ≡ old.committed → new.in_transaction ≡ false → IsHistory new first kept
-history_same old new first kept is opened now committed outside = record {
-  is_open = opened;
-  schema = ap (λ (it : Database). it.schema) now ∙ is.schema;
-  holds = subst (λ (it : Database). Holds it.trees first kept) (sym now) is.holds;
-  committed = committed ∙ is.committed ∙ sym now;
-  autocommit = outside;
-}
-
-pub history_unchanged : (old new : State) (first : ℕ) (kept : List Record) → IsHistory old first kept → IsUnchanged old new → IsHistory new first kept
-history_unchanged old new first kept is same =
-    history_same old new first kept is same.0.is_open same.0.now_is same.0.committed_is (same.0.mode ∙ is.autocommit)
-
--- a statement failed, and the connection is open
-pub history_as_before : (old new : State) (first : ℕ) (kept : List Record) → IsHistory old first kept → IsTrue new.is_open → IsAsBefore old new
-    → IsHistory new first kept
-history_as_before old new first kept is opened (inl same) = history_unchanged old new first kept is same
-history_as_before old new first kept is opened (inr back) =
-    history_same old new first kept is opened ((back.undone opened).0 ∙ is.committed) (back.undone opened).1 back.autocommit
 
 -- what a history holds is committed
 pub history_holds : (s : State) (first : ℕ) (kept : List Record) → IsHistory s first kept → Holds s.committed.trees first kept
@@ -98,41 +73,6 @@ leaves_either old new first kept number others P clean is settled holds leaves d
   | inl was ↦ inl (subst (λ trees. Holds trees first kept) (sym (settled db was)) (history_holds old first kept is))
   | inr made ↦ inr (holds db made)
 ]
-
--- the rows that were listed are these records
-pub history_opened : (old new : State) (first : ℕ) (kept : List Record) (rows : List Row) → Opens old → old.now.schema ≡ history_schema
-    → IsUnchanged old new → IsPermutation (map shown_row (old.now.trees 0)) rows → rows ≡ entries_from first kept → IsHistory new first kept
-history_opened old new first kept rows opens schema same all is =
-    let now = same.0.now_is in
-    record {
-      is_open = same.0.is_open;
-      schema = ap (λ (it : Database). it.schema) now ∙ schema;
-      holds = subst (λ (it : Database). Holds it.trees first kept) (sym now) (subst (IsPermutation (map shown_row (old.now.trees 0))) is all);
-      committed = same.0.committed_is ∙ sym opens.clean ∙ sym now;
-      autocommit = same.0.mode ∙ opens.autocommit;
-    }
-
--- the first record of a table that was made anew
-pub inside_first : (old new : State) (number : ℕ) (only : Record) → old.in_transaction ≡ true → old.now.trees 0 ≡ [] → Leads old new history_schema
-    → new.now.trees 0 ≡ old.now.trees 0 ++ stored_row number only ∷ [] → IsInside new number (only ∷ [])
-inside_first old new number only within none leads added = record {
-  is_open = leads.shown.is_open;
-  schema = leads.schema;
-  holds = Holds-append old.now.trees new.now.trees number [] only (Holds-nil old.now.trees number none)
-      (added ∙ ap (λ n. old.now.trees 0 ++ stored_row n only ∷ []) (omega arith));
-  within = leads.shown.mode ∙ within;
-}
-
--- the commit of a transaction that replaced the records
-pub history_committed : (old new : State) (number : ℕ) (kept : List Record) → IsInside old number kept → Shows old new old.now old.now false
-    → IsHistory new number kept
-history_committed old new number kept is shown = record {
-  is_open = shown.is_open;
-  schema = ap (λ (it : Database). it.schema) shown.now_is ∙ is.schema;
-  holds = subst (λ (it : Database). Holds it.trees number kept) (sym shown.now_is) is.holds;
-  committed = shown.committed_is ∙ sym shown.now_is;
-  autocommit = shown.mode;
-}
 
 -- a crash within an append
 pub append_leaves : (old new : State) (first len : ℕ) (kept : List Record) (last : Record) → HasCleanDisk new → len ≡ length kept

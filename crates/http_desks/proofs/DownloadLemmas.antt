@@ -1,13 +1,11 @@
 -- One more block of a package.
-use Rattle.std.proofs.Common.{◌≡◌, ℕ, ◌+◌, ◌-◌, ◌*◌, ◌/◌, ◌≤◌, List, take, [], ◌∷◌, ◌++◌, length, cond, true, Option, Some, sym, subst, ap, ◌∙◌, arith}
-use Rattle.std.proofs.lemmas.List.{append-nil, length-take-le}
+use Rattle.std.proofs.Common.{◌≡◌, ℕ, ◌+◌, ◌-◌, ◌*◌, List, [], ◌∷◌, ◌++◌, length, Option, Some, sym, subst, ap, ◌∙◌, arith}
+use Rattle.std.proofs.lemmas.List.{append-nil}
 use Rattle.std.proofs.lemmas.Grind.{flat_map-append}
-use Rattle.std.specs.Prelude.{bytes_eq}
 use Rattle.std.specs.Io.KnownBytes.{Appends}
-use Rattle.sha2.specs.Sha256.{sha256}
 use Rattle.http_wire.specs.Sending.{AppendsPart}
 use Rattle.http_wire.proofs.KnownLemmas.{AppendsPart-then}
-use Rattle.http_desks.specs.Downloads.{Reads, ReadsFrom, full_blocks, joined_blocks, download}
+use Rattle.http_desks.specs.Downloads.{Reads, ReadsFrom, joined_blocks}
 
 pub ReadsFrom-more :
     (reads : Reads) (index : ℕ) (blocks : List (List ℕ)) (block : List ℕ) →
@@ -39,14 +37,6 @@ AppendsPart-more before between after blocks block whole part =
     (ap (λ (end : List ℕ). joined_blocks blocks ++ end) (append-nil block) ∙ sym (joined_blocks-more blocks block))
     (AppendsPart-then before between after (joined_blocks blocks) block [] whole part)
 
--- the last block, where the digest agrees
-pub download-agrees :
-    (hash : List ℕ) (blocks : List (List ℕ)) (last : List ℕ) →
-    bytes_eq (sha256 (joined_blocks blocks ++ last)) hash ≡ true →
-    download hash blocks (Some last) ≡ joined_blocks blocks ++ last
-download-agrees hash blocks last same =
-    ap (λ b. cond b (joined_blocks blocks ++ last) (joined_blocks blocks)) same
-
 pub AppendsPart-last :
     (before between after : Option (List ℕ)) (first last : List ℕ) →
     Appends before between first →
@@ -65,14 +55,3 @@ pub read-same :
     reads here count bytes
 read-same reads at here size count bytes place long read =
     subst (λ (n : ℕ). reads here n bytes) long (subst (λ (n : ℕ). reads n size bytes) place read)
-
--- what is after the full blocks fits a block
-pub last-fits :
-    (size less : ℕ) (block : List ℕ) →
-    less ≡ size - 1 →
-    length block ≡ 65536 →
-    length (take (size - less / 65536 * 65536) block) ≡ size - full_blocks size * 65536
-last-fits size less block one_less long =
-    let same = ap (λ (n : ℕ). n / 65536) one_less in
-    let fits : size - less / 65536 * 65536 ≤ length block = omega (arith, same) in
-    length-take-le (size - less / 65536 * 65536) block fits ∙ ap (λ (n : ℕ). size - n * 65536) same

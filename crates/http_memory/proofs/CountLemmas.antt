@@ -4,18 +4,11 @@ use Rattle.std.proofs.Math.ListN.{set}
 use Rattle.std.specs.Prelude.{vec_len}
 use Rattle.std.proofs.lemmas.List.Sums.{sum_by-cons, sum_by-set, sum_by_push}
 use Rattle.std.proofs.lemmas.List.{take_more_set}
-use Rattle.http_memory.specs.Seats.{AreDone, HasConnected, accepted_in, connected_at, peers_in}
+use Rattle.http_memory.specs.Seats.{AreDone, accepted_in, connected_at, peers_in}
 use Rattle.http_memory.specs.declared.scripts.seat.Seat.{Seat}
 
 abbrev peers_at : Seat → ℕ
 peers_at seat = vec_len seat.peers
-
--- so many more have connected at one seat
-pub accepted_in-set :
-    (seats : List Seat) (at : ℕ) (seat next : Seat) (more : ℕ) → at < length seats → seat ≡ get_or seats at seat →
-    HasConnected more seat next → accepted_in (set seats at next) ≡ accepted_in seats + more
-accepted_in-set seats at seat next more within is counts =
-    omega (arith, sum_by-set connected_at seats at next seat within, ap connected_at is, counts.connected)
 
 -- one seat has as many peers as before
 pub peers_in-set :

@@ -15,11 +15,6 @@ abbrev pub slot_at : List Peer → ℕ → Bool → Slot
 slot_at peers ended is_open =
     record { ended = ended_among peers ended; current = if is_open then option_map traffic_of (slice_get peers ended) else None }
 
--- a seat with a connection is open
-pub is_open_of : (peers : List Peer) (ended : ℕ) (is_open : Bool) → IsOpen (slot_at peers ended is_open) → is_open ≡ true
-is_open_of peers ended true live = refl
-is_open_of peers ended false (traffic, live) = cc live
-
 -- then it has a peer
 pub within_of : (peers : List Peer) (ended : ℕ) (is_open : Bool) → IsOpen (slot_at peers ended is_open) → ended < length peers
 within_of peers ended false (traffic, live) = cc live

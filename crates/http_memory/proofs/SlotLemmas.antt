@@ -5,17 +5,16 @@ use Rattle.std.specs.Prelude.{◌⊎◌, IfSome, slice_get}
 use Rattle.std.specs.Option.{option_map_or}
 use Rattle.std.proofs.lemmas.List.{get_or-set_other, get_or-set_same, length-set, set-get_or}
 use Rattle.std.proofs.lemmas.Option.{slice_get-get_or, slice_get_past, slice_get_within}
-use Rattle.http_ports.specs.Ports.{Reads, Reports, Writes, expiring}
-use Rattle.http_ports.specs.Traffic.{Changes, Elsewhere, IsOpen, Slot, Traffic, marked, no_traffic, unused}
+use Rattle.http_ports.specs.Ports.{Reads, Writes}
+use Rattle.http_ports.specs.Traffic.{Changes, Elsewhere, IsOpen, Slot, Traffic, unused}
 use Rattle.http_ports.specs.declared.event.Event.{Event}
 use Rattle.http_ports.specs.declared.event.Event.TheVariants as event
 use Rattle.http_ports.specs.declared.event.Received.{Received}
 use Rattle.http_ports.specs.declared.event.Received.TheVariants as received
 use Rattle.http_ports.specs.declared.event.Sent.{Sent}
 use Rattle.http_ports.specs.declared.event.Sent.TheVariants as sent
-use Rattle.http_ports.specs.declared.last.Last.TheVariants.{Reported}
 use Rattle.http_memory.specs.Peers.{FitsRead, FitsWrite, after_read, after_write}
-use Rattle.http_memory.specs.Seats.{ChangesSeat, IsQuiet, IsQuietAt, ReportsSeat, peers_of, slot_of, slots_of}
+use Rattle.http_memory.specs.Seats.{ChangesSeat, IsQuiet, IsQuietAt, peers_of, slot_of, slots_of}
 use Rattle.http_memory.specs.declared.scripts.peer.Peer.{Peer}
 use Rattle.http_memory.specs.declared.scripts.seat.Seat.{Seat}
 
@@ -57,11 +56,6 @@ within_slots seats at (traffic, live) = of_found (slice_get seats at) refl live
     of_found None is live = cc live
     of_found (Some seat) is live = slice_get_within seats at seat is
 
--- then its seat has one
-pub seat_is_open :
-    (seats : List Seat) (at : ℕ) (seat : Seat) → seat ≡ get_or seats at seat → IsOpen (slots_of seats at) → IsOpen (slot_of seat)
-seat_is_open seats at seat is live = subst (λ (slot : Slot). IsOpen slot) (slots_of-at seats at seat (within_slots seats at live) is) live
-
 pub changes_at :
     (seats : List Seat) (at : ℕ) (seat next : Seat) (change : Traffic → Traffic) →
     at < length seats → seat ≡ get_or seats at seat → ChangesSeat change seat next →
@@ -89,29 +83,6 @@ pub writes_at :
 writes_at (sent.Bytes count) bytes old new at fits changes = (fits.0, fits.1, changes)
 writes_at sent.Nothing bytes old new at fits changes = changes
 writes_at sent.Failure bytes old new at fits changes = changes
-
-pub reports_at :
-    (happened : Event) (seats : List Seat) (at : ℕ) (seat next : Seat) →
-    at < length seats → seat ≡ get_or seats at seat → ReportsSeat at happened seat next →
-    Reports (length seats) happened (slots_of seats) (slots_of (set seats at next))
-reports_at (event.Accepted slot) seats at seat next within is (same, free, opened) =
-    let here = slots_of-at seats at seat within is in
-    subst (λ (k : ℕ). Reports (length seats) (event.Accepted k) (slots_of seats) (slots_of (set seats at next))) (sym same) (
-      within,
-      ap (λ (slot : Slot). slot.current) here ∙ free,
-      slots_of-set-here seats at next within ∙ opened
-          ∙ ap (λ (slot : Slot). record { ended = slot.ended; current = Some no_traffic }) (sym here),
-      slots_of-set-elsewhere seats at next,
-    )
-reports_at (event.Ready slot) seats at seat next within is (same, live, changes) =
-    let here = slots_of-at seats at seat within is in
-    subst (λ (k : ℕ). Reports (length seats) (event.Ready k) (slots_of seats) (slots_of (set seats at next))) (sym same)
-    (within, subst (λ (slot : Slot). IsOpen slot) (sym here) live, changes_at seats at seat next (marked Reported) within is changes)
-reports_at (event.Expired slot) seats at seat next within is (same, (traffic, live, waiting), changes) =
-    let here = slots_of-at seats at seat within is in
-    subst (λ (k : ℕ). Reports (length seats) (event.Expired k) (slots_of seats) (slots_of (set seats at next))) (sym same)
-    (within, (traffic, ap (λ (slot : Slot). slot.current) here ∙ live, waiting), changes_at seats at seat next expiring within is changes)
-reports_at event.Done seats at seat next within is reports = absurd reports
 
 -- a seat that is put back as it was
 pub set-same : (seats : List Seat) (at : ℕ) (seat next : Seat) → next ≡ get_or seats at seat → set seats at next ≡ seats

@@ -12,7 +12,7 @@ use Rattle.http_sessions.specs.declared.session.Turn.{Turn}
 use Rattle.http_sessions.specs.declared.session.Turn.TheVariants.{Open, Ended}
 use Rattle.http_sessions.specs.Stops.{Ends, More, Stop, begun}
 use Rattle.http_sessions.specs.Laws.{AreJoined, Comes}
-use Rattle.http_sessions.specs.Sessions.{Serves, SessionEnds, TurnEnds, failed_reads, failed_writes, replies, waiting, wrote}
+use Rattle.http_sessions.specs.Sessions.{Serves, SessionEnds, TurnEnds, replies, waiting, wrote}
 use Rattle.http_sessions.proofs.ReadingLemmas.{Consumes-nothing}
 use Rattle.http_sessions.proofs.SessionLemmas.{Appends-nothing, joined, stopped}
 
@@ -132,14 +132,3 @@ module _ {D : Type 0} (IsFit : Method → List ℕ → Use → Type 0) (steps : 
       let all : length one.exchanges + length next.exchanges ≡ count + more = omega (arith, so_far, then) in
       joined IsFit steps kind start (Comes count More waits) (Comes more stop rest) (Comes (count + more) stop rest) whole first
       left mid after old between new before amid behind one open_still next (all, stops, left_over)
-
--- a fault is the same of a turn and of a session
-pub fault_reads : (why : Fault) → failed_reads {A = Turn} (Err why) ≡ failed_reads {A = Served} (Err why)
-fault_reads fault.Read = refl
-fault_reads fault.Write = refl
-fault_reads fault.Memory = refl
-
-pub fault_writes : (why : Fault) → failed_writes {A = Turn} (Err why) ≡ failed_writes {A = Served} (Err why)
-fault_writes fault.Read = refl
-fault_writes fault.Write = refl
-fault_writes fault.Memory = refl

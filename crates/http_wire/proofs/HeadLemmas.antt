@@ -4,11 +4,7 @@ use Rattle.std.specs.List.{AllByRecursion}
 use Rattle.std.proofs.lemmas.List.Elements.{recursion_from_All}
 use Rattle.std.specs.List.{flat_map}
 use Rattle.httparse.specs.Grammar.{LineEnd, crlf, lf, print_end, Field, IsField, print_field, RequestHead, IsRequestHead, print_request}
-use Rattle.httparse.specs.Spans.{IsWithin, IsRequestWithin, RequestExceeds}
-use Rattle.httparse.specs.declared.spans.Span.{Span}
-use Rattle.httparse.specs.declared.spans.HeaderSpan.{HeaderSpan}
-use Rattle.httparse.specs.declared.spans.RequestSpans.{RequestSpans}
-use Rattle.http_wire.specs.Heads.{IsWholeWithin}
+use Rattle.httparse.specs.Spans.{RequestExceeds}
 
 end_some : (end : LineEnd) → 1 ≤ length (print_end end)
 end_some crlf = omega arith
@@ -42,25 +38,3 @@ never_exceeds bytes room places short (front, rest, cut, h, reads, over) =
     let whole = ap length reads.1 in
     let parts = ap length cut in
     omega (arith, length-append front rest, length-append front (print_end lf), length-append (print_request h) [])
-
-longer_within : (short long : ℕ) (span : Span) → short ≤ long → IsWithin short span → IsWithin long span
-longer_within short long span more (ordered, inside) = (ordered, omega arith)
-
-pub whole_within :
-    (bytes : List ℕ) (fields : List HeaderSpan) (spans : RequestSpans) →
-    IsRequestWithin bytes fields spans →
-    IsWholeWithin bytes fields spans
-whole_within bytes fields spans within =
-    let more = within.section.len_fits in
-    record {
-      method = longer_within spans.len (length bytes) spans.method more within.method;
-      target = longer_within spans.len (length bytes) spans.path more within.path;
-      minor = within.version;
-      short = more;
-      count = within.section.count_fits;
-      places = λ k d inside.
-          let (name, value) = within.section.headers_fit k d inside in (
-            longer_within spans.len (length bytes) _ more name,
-            longer_within spans.len (length bytes) _ more value,
-          );
-    }

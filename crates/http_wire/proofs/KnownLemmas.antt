@@ -4,7 +4,6 @@ use Rattle.std.specs.Borrow.{Bor}
 use Rattle.std.specs.Io.KnownBytes.{Appends, Consumes}
 use Rattle.std.proofs.lemmas.List.{take-append-drop, drop_more}
 use Rattle.std.proofs.lemmas.Grind.{flat_map-append}
-use Rattle.http_wire.specs.Devices.{Came}
 use Rattle.http_wire.specs.Sending.{AppendsPart, joined}
 
 pub Appends-then :
@@ -65,16 +64,3 @@ joined-around texts at d inside =
     ap joined (sym (take-append-drop at texts))
     ∙ flat_map-append (λ (t : Bor (List ℕ)). t.now) (take at texts) (drop at texts)
     ∙ ap (λ (rest : List (Bor (List ℕ))). joined (take at texts) ++ joined rest) (drop_more texts at d inside)
-
--- a read after others
-pub Came-then :
-    (before between after : Option (List ℕ)) (first second third : List ℕ) (bytes : List ℕ) →
-    Came before between first second →
-    Consumes between after bytes →
-    third ≡ second ++ bytes →
-    Came before after first third
-Came-then before between after first second third bytes came consumed behind = record {
-  bytes = came.bytes ++ bytes;
-  consumed = Consumes-then before between after came.bytes bytes came.consumed consumed;
-  behind = behind ∙ ap (λ (front : List ℕ). front ++ bytes) came.behind ∙ append_assoc first came.bytes bytes;
-}

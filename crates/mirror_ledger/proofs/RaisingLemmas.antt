@@ -4,12 +4,6 @@ use Rattle.catalogue.specs.declared.mirror.Mirror.{Mirror}
 use Rattle.mirror_ledger.specs.Named.{budget_at}
 use Rattle.mirror_ledger.specs.Raising.{raise_at}
 
--- there are as many
-pub length-raise_at : (mirrors : List Mirror) (index budget : ℕ) → length (raise_at mirrors index budget) ≡ length mirrors
-length-raise_at [] index budget = refl
-length-raise_at (mirror ∷ mirrors) zero budget = refl
-length-raise_at (mirror ∷ mirrors) (suc index) budget = ap suc (length-raise_at mirrors index budget)
-
 -- the one at the index has the budget
 pub budget_at-raised : (mirrors : List Mirror) (index budget : ℕ) → index < length mirrors →
     budget_at (raise_at mirrors index budget) index ≡ budget

@@ -5,7 +5,7 @@ use Rattle.std.proofs.lemmas.List.{length-map, map-append}
 use Rattle.std.proofs.lemmas.List.Elements.{All-weaker}
 use Rattle.std.proofs.lemmas.List.Sums.{sum_by_push}
 use Rattle.catalogue.specs.declared.mirror.Mirror.{Mirror}
-use Rattle.mirror_ledger.specs.Asks.{AreTallied, AreUnused, Ask, granted_at}
+use Rattle.mirror_ledger.specs.Asks.{AreUnused, Ask, granted_at}
 use Rattle.mirror_ledger.specs.Named.{AreFixed, budget_at, totals_of}
 use Rattle.mirror_ledger.specs.Order.{IsAlone}
 use Rattle.mirror_ledger.specs.Tills.{AreOpened, AreTotalsOf, granted_by}
@@ -27,14 +27,6 @@ pub taken_back :
     amount + granted_by (map asks rest) index ≡ total
 taken_back asks tills rest last index total before amount share same added tallied sum =
     omega (arith, granted_by-last asks tills rest last index same)
-
--- shares of 0 are the sums of no asks
-pub AreTallied-unused :
-    (first second third fourth : ℕ) (asks : List Ask) →
-    AreUnused first second third fourth asks → AreTallied first second third fourth asks
-AreTallied-unused first second third fourth asks unused =
-    rw unused.none_asked
-    (record { at_first = unused.at_first; at_second = unused.at_second; at_third = unused.at_third; at_fourth = unused.at_fourth })
 
 -- tills of workers whose shares are 0, over books of these mirrors whose ledgers have a part for each, and the most that
 -- their budgets may come to

@@ -1,5 +1,5 @@
 -- Rows that name the best payloads break no rule, and pieces of them join.
-use Rattle.std.proofs.Common.{◌≡◌, ℕ, ◌+◌, ◌*◌, ◌/◌, ◌-◌, ◌<◌, ◌≤◌, inl, inr, List, length, None, ap, ◌∙◌, arith}
+use Rattle.std.proofs.Common.{◌≡◌, ℕ, ◌+◌, ◌-◌, inl, inr, List, None, ap, ◌∙◌, arith}
 use Rattle.std.specs.List.{All, range_with_len}
 use Rattle.std.proofs.lemmas.Bool.{cases_eq, cases_lt}
 use Rattle.payload_graph.specs.Net.{Net, edges_from}
@@ -21,13 +21,6 @@ broken_at-best net rows from row apart is best = ap (broken_rule net rows from) 
 pub broken_at-end : (net : Net) (rows : List Row) → row_at rows net.target ≡ End → broken_at net rows net.target ≡ None
 broken_at-end net rows is = ap (broken_rule net rows net.target) is ∙ unbroken-target net rows
 
--- unbroken rows, and those after them
-pub AreUnbroken-joined :
-    (net : Net) (rows : List Row) (low middle high : ℕ) → AreUnbroken net rows low middle → AreUnbroken net rows middle high →
-    AreUnbroken net rows low high
-AreUnbroken-joined net rows low middle high one other from after before = elim (cases_lt from middle) [
-  | inl below ↦ one from after below
-  | inr above ↦ other from (omega arith) before
 ]
 
 -- the same with the row of the target between them

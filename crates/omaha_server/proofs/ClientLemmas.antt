@@ -1,26 +1,9 @@
 -- What ports serve by, one for each worker, and their senders to the log.
-use Rattle.std.proofs.Common.{◌≡◌, ◌∙◌, ◌↔◌, ℕ, suc, ◌+◌, ◌<◌, Bool, true, false, List, [], ◌∷◌, ◌++◌, Option, Some, None, ap, append-nil, append_assoc, arith, below_more, get_or, if◌then◌else◌, is_some, length, option_to_list, refl, sym}
-use Rattle.std.proofs.Math.Seq.{get_or-append_seam}
-use Rattle.std.proofs.lemmas.List.{get_or_append_left, length-append}
-use Rattle.http_ports.specs.declared.terms.Terms.{Terms}
+use Rattle.std.proofs.Common.{◌≡◌, ◌∙◌, ◌↔◌, ℕ, suc, ◌+◌, ◌<◌, Bool, true, false, List, [], ◌∷◌, ◌++◌, Option, Some, None, ap, append-nil, append_assoc, arith, if◌then◌else◌, is_some, length, option_to_list, refl, sym}
+use Rattle.std.proofs.lemmas.List.{length-append}
 use Rattle.access_logs.specs.Queues.{Sending}
 use Rattle.omaha_server.specs.Logging.{those_of}
-use Rattle.omaha_server.specs.Opening.{client_terms}
-use Rattle.omaha_server.specs.declared.place.Place.{Place}
 use Rattle.omaha_server.proofs.SenderLemmas.{those_of-more}
-
--- one more worker's
-pub client_terms-more :
-    (place : Place) (capacity count : ℕ) (terms : List Terms) → length terms ≡ count →
-    ((worker : ℕ) (d : Terms) → worker < count → get_or terms worker d ≡ client_terms place capacity worker) →
-    (worker : ℕ) (d : Terms) → worker < count + 1 →
-    get_or (terms ++ client_terms place capacity count ∷ []) worker d ≡ client_terms place capacity worker
-client_terms-more place capacity count terms sized are worker d below =
-    below_more (λ i. get_or (terms ++ client_terms place capacity count ∷ []) i d ≡ client_terms place capacity i) count
-    (λ i low. get_or_append_left terms (client_terms place capacity count ∷ []) d i (omega (arith, low, sized)) ∙ are i d low)
-    (ap (λ (n : ℕ). get_or (terms ++ client_terms place capacity count ∷ []) n d) (sym sized)
-    ∙ get_or-append_seam terms (client_terms place capacity count) [] d)
-    worker (omega (arith, below))
 
 -- a port of a server whose replies are logged has a sender, and each other port none
 pub next_so :

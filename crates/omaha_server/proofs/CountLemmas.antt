@@ -13,7 +13,7 @@ use Rattle.operator_pages.specs.declared.counts.Reach.{Reach}
 use Rattle.operator_pages.specs.declared.counts.Reach.TheVariants as reach
 use Rattle.operator_pages.specs.declared.publishes.Publish.{Publish}
 use Rattle.service_desks.specs.States.{State}
-use Rattle.omaha_server.specs.Outcomes.{outcome_in, reach_in, status_word, stop_word}
+use Rattle.omaha_server.specs.Outcomes.{outcome_in, reach_in, status_word}
 use Rattle.omaha_server.specs.Overviews.{Overview, counted_at, counts_after, has_more, publish_of, published_by, publishes_after, settled_count}
 use Rattle.omaha_server.specs.Showing.{ShowsStatus}
 
@@ -29,11 +29,6 @@ word-nothing :
 word-nothing published word body reply here is success =
     subst (λ (b : List ℕ). IsNothing published b (Ok reply)) (sym is)
     (subst (λ (s : DeskStatus). IsNothing published word (Ok (s, reply.1))) (sym success) here)
-
-pub stop-nothing :
-    (published : Bool) (body : List ℕ) (reply : DeskStatus × List ℕ) → body ≡ stop_word → reply.0 ≡ status.Success →
-    IsNothing published body (Ok reply)
-stop-nothing published body reply is success = word-nothing published stop_word body reply (refl, refl) is success
 
 pub status-nothing :
     (published : Bool) (version body : List ℕ) (before : Overview) (answer : Result (DeskStatus × List ℕ) Off) →

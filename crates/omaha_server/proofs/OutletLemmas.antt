@@ -1,5 +1,5 @@
 -- The senders of a server's lines, by where they are written.
-use Rattle.std.proofs.Common.{◌≡◌, ◌∙◌, ◌<◌, ◌+◌, ◌&&◌, ℕ, Bool, true, false, List, ◌++◌, Option, Some, None, arith, if◌then◌else◌, is_some, length, not, option_to_list, refl, sym, subst, ap}
+use Rattle.std.proofs.Common.{◌≡◌, ◌∙◌, ◌+◌, ◌&&◌, ℕ, Bool, true, false, List, ◌++◌, Option, Some, None, arith, if◌then◌else◌, is_some, length, not, option_to_list, refl, sym, subst, ap}
 use Rattle.std.proofs.lemmas.List.{length-append}
 use Rattle.http_ports.specs.Speech.{one_if}
 use Rattle.access_logs.specs.Queues.{Sending}
@@ -15,14 +15,6 @@ pub left_of :
 left_of all rest last is count parted so many =
     let sum : length rest + length (option_to_list last) ≡ length all = sym (length-append rest (option_to_list last)) ∙ ap length parted in
     let one : length (option_to_list last) ≡ one_if is = length-option last ∙ ap one_if so in omega (arith, sum, one, many)
-
--- there are senders of what a server says of itself
-pub some_named :
-    (named errors : Bool) (count many : ℕ) → (named ≡ true → errors ≡ true) →
-    many ≡ (if errors then count + one_if named else 0) → named ≡ true → 0 < many
-some_named true true count many fits is so = omega (arith, is)
-some_named true false count many fits is so = cc (fits refl)
-some_named false errors count many fits is so = cc so
 
 -- the senders of the log are as many as its ports
 pub chosen_many :

@@ -4,22 +4,10 @@ use Rattle.catalogue.specs.declared.mirror.Mirror.{Mirror}
 use Rattle.operator_pages.specs.declared.counts.Counts.{Counts}
 use Rattle.operator_pages.specs.declared.publishes.Publish.{Publish}
 use Rattle.service_desks.specs.States.{State, Store, earlier_in}
-use Rattle.std.proofs.Common.{◌≡◌, ap, refl, sym, ℕ, zero, suc, ◌+◌, ◌<◌, ◌≤◌, Bool, List, [], ◌∷◌, ◌++◌, length, get_or, arith}
+use Rattle.std.proofs.Common.{◌≡◌, ap, refl, sym, Bool, List}
 use Rattle.omaha_server.specs.Showing.{IsOverview}
 use Rattle.omaha_server.specs.Overviews.{IsUnmoved, overview}
 use Rattle.omaha_server.specs.declared.circumstances.Circumstances.{Circumstances}
-
--- one more number within its limit
-pub within-more :
-    (limit : ℕ → ℕ) (numbers : List ℕ) (number : ℕ) →
-    ((k : ℕ) → k < length numbers → get_or numbers k 0 ≤ limit k) →
-    number ≤ limit (length numbers) →
-    (k : ℕ) → k < length (numbers ++ number ∷ []) → get_or (numbers ++ number ∷ []) k 0 ≤ limit k
-within-more limit [] number each last zero inside = last
-within-more limit [] number each last (suc k) inside = absurd (omega arith)
-within-more limit (first ∷ numbers) number each last zero inside = each 0 (omega arith)
-within-more limit (first ∷ numbers) number each last (suc k) inside =
-    within-more (λ n. limit (suc n)) numbers number (λ n below. each (suc n) (omega arith)) last k (omega arith)
 
 abbrev pub state_by : History → Store → List Mirror → State
 state_by history kept mirrors = record { mirrors = mirrors; history = history; store = kept }

@@ -23,11 +23,6 @@ AreFindings-append opens reads (named ∷ rest) others first second (differs, la
   AreFindings-append opens reads rest others later second more found,
 )
 
--- nothing for no package
-pub Adds-nothing :
-    (opens : List ℕ → Opens) (reads : List ℕ → Reads) (old : List Finding) → Adds opens reads [] old old
-Adds-nothing opens reads old = ([], sym (append-nil old), refl)
-
 -- what is found of one package
 pub Adds-one :
     (opens : List ℕ → Opens) (reads : List ℕ → Reads) (name : List ℕ) (declared : Declared) (differs : Option Mismatch) (old new : List Finding) →
@@ -80,10 +75,3 @@ Adds-part {X} part opens reads items index item old mid new within here =
     ∙ flat_map-append part (take index items) (there ∷ [])
     ∙ ap (λ (end : List Package). before ++ end) (append-nil (part there))
     ∙ ap (λ (other : X). before ++ part other) (sym here))
-
--- the findings that are added to none are all of them
-pub AreFindings-all :
-    (opens : List ℕ → Opens) (reads : List ℕ → Reads) (packages : List Package) (findings : List Finding) →
-    Adds opens reads packages [] findings → AreFindings opens reads packages findings
-AreFindings-all opens reads packages findings (more, added, found) =
-    subst (AreFindings opens reads packages) (sym added) found

@@ -1,8 +1,8 @@
 -- One more block of a file that is hashed.
-use Rattle.std.proofs.Common.{◌≡◌, ℕ, ◌+◌, ◌-◌, ◌*◌, ◌/◌, ◌≤◌, List, take, [], ◌∷◌, ◌++◌, length, Option, Some, subst, ap, ◌∙◌, arith}
-use Rattle.std.proofs.lemmas.List.{append-nil, length-take-le}
+use Rattle.std.proofs.Common.{◌≡◌, ℕ, ◌+◌, ◌-◌, ◌*◌, List, [], ◌∷◌, ◌++◌, length, Option, Some, subst, ap, ◌∙◌, arith}
+use Rattle.std.proofs.lemmas.List.{append-nil}
 use Rattle.std.proofs.lemmas.Grind.{flat_map-append}
-use Rattle.http_desks.specs.Downloads.{Reads, ReadsFrom, full_blocks, joined_blocks}
+use Rattle.http_desks.specs.Downloads.{Reads, ReadsFrom, joined_blocks}
 
 pub ReadsFrom-push :
     (reads : Reads) (index : ℕ) (blocks : List (List ℕ)) (block : List ℕ) →
@@ -29,13 +29,3 @@ pub reads-as :
     at ≡ here → size ≡ count → reads at size bytes → reads here count bytes
 reads-as reads at here size count bytes place long read =
     subst (λ (n : ℕ). reads here n bytes) long (subst (λ (n : ℕ). reads n size bytes) place read)
-
--- what is after the full blocks fits a block
-pub length-last :
-    (size less : ℕ) (block : List ℕ) →
-    less ≡ size - 1 → length block ≡ 65536 →
-    length (take (size - less / 65536 * 65536) block) ≡ size - full_blocks size * 65536
-length-last size less block one_less long =
-    let same = ap (λ (n : ℕ). n / 65536) one_less in
-    let fits : size - less / 65536 * 65536 ≤ length block = omega (arith, same) in
-    length-take-le (size - less / 65536 * 65536) block fits ∙ ap (λ (n : ℕ). size - n * 65536) same

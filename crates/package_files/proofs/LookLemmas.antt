@@ -1,9 +1,9 @@
 -- Packages that are looked for one after the other.
-use Rattle.std.proofs.Common.{◌≡◌, ◌∙◌, ℕ, ◌+◌, ◌<◌, List, [], ◌∷◌, ◌++◌, All, drop, flat_map, get_or, length, map, take, ap, ap₂, refl, subst, sym}
+use Rattle.std.proofs.Common.{◌≡◌, ◌∙◌, ℕ, ◌+◌, ◌<◌, List, [], ◌∷◌, ◌++◌, drop, flat_map, get_or, length, map, take, ap, ap₂, refl, subst, sym}
 use Rattle.std.specs.Prelude.{Result, Ok, Err}
 use Rattle.std.proofs.lemmas.Grind.{flat_map-append}
 use Rattle.std.proofs.lemmas.List.{append-nil, append_assoc, drop_more, map-append, take-append-drop, take_more}
-use Rattle.std.proofs.lemmas.List.Elements.{All-append, All-cons, All-nil}
+use Rattle.std.proofs.lemmas.List.Elements.{All-append, All-nil}
 use Rattle.catalogue.specs.declared.edit.Edit.{Edit}
 use Rattle.catalogue.specs.Lookups.{diff_package, full_package, packages_in, packages_of}
 use Rattle.catalogue.specs.declared.content.App.{App}
@@ -15,11 +15,6 @@ use Rattle.package_files.specs.Lacking.{AreThere, IsLooked, IsThere, Lacks, Lack
 use Rattle.package_files.specs.Looking.{app_sizes, diff_sizes, edit_sizes, release_sizes}
 use Rattle.package_files.specs.declared.lacking.Lack.{Lack}
 use Rattle.package_files.specs.declared.lacking.Lacking.{Lacking}
-
--- the one package is there
-pub AreThere-one :
-    (sizes : Sizes) (named : Sized) → IsThere sizes named → AreThere sizes (named ∷ [])
-AreThere-one sizes named is = All-cons (IsThere sizes) named [] is (All-nil (IsThere sizes))
 
 -- or it isn't
 pub LacksFirst-one :

@@ -1,8 +1,6 @@
 -- Joined lists of one item more.
 use Rattle.std.proofs.Common.{◌≡◌, ℕ, ◌+◌, ◌<◌, List, [], ◌∷◌, ◌++◌, get_or, length, take, sym, ap, ◌∙◌, arith}
-use Rattle.std.specs.List.{All}
 use Rattle.std.proofs.lemmas.List.{append-nil, append_assoc, length-take-le, take_more}
-use Rattle.std.proofs.lemmas.List.Elements.{All-append, All-nil}
 use Rattle.par_tables.specs.Tracks.{joined_from}
 
 joined_from-append :
@@ -26,11 +24,3 @@ joined_from-more f xs n d within =
     ∙ joined_from-append f 0 (take n xs) (get_or xs n d ∷ [])
     ∙ ap (λ m. joined_from f 0 (take n xs) ++ (f m (get_or xs n d) ++ [])) count
     ∙ ap (λ ys. joined_from f 0 (take n xs) ++ ys) (append-nil (f n (get_or xs n d)))
-
--- what holds of each list's items holds of all
-pub All-joined_from :
-    {A B : Type 0} (P : B → Type 0) (f : ℕ → A → List B) →
-    ((index : ℕ) (x : A) → All P (f index x)) → (index : ℕ) (xs : List A) → All P (joined_from f index xs)
-All-joined_from P f each index [] = All-nil P
-All-joined_from P f each index (x ∷ xs) =
-    All-append P (f index x) (joined_from f (index + 1) xs) (each index x) (All-joined_from P f each (index + 1) xs)

@@ -1,7 +1,7 @@
 -- Tables that are added for some tracks.
-use Rattle.std.proofs.Common.{◌≡◌, ℕ, ◌+◌, ◌<◌, List, [], ◌∷◌, ◌++◌, get_or, length, map, take, Option, None, Some, sym, ap, ◌∙◌, subst}
+use Rattle.std.proofs.Common.{◌≡◌, ℕ, ◌+◌, ◌<◌, List, [], ◌∷◌, ◌++◌, get_or, length, map, take, Option, Some, sym, ap, ◌∙◌, subst}
 use Rattle.std.specs.List.{All, filter_map}
-use Rattle.std.proofs.lemmas.List.{append-nil, append_assoc, map-append, take_more}
+use Rattle.std.proofs.lemmas.List.{append_assoc, map-append, take_more}
 use Rattle.std.proofs.lemmas.List.Elements.{All-push, filter_map-append}
 use Rattle.catalogue.specs.declared.content.App.{App}
 use Rattle.payload_graph.specs.declared.payload.TrackKey.{TrackKey}
@@ -22,22 +22,6 @@ Adds-one apps key net old new table there own is pushed = record {
       ∙ ap (λ (found : Option Net). map net_of_table old ++ filter_map (λ (n : ℕ). found) (0 ∷ [])) (sym there);
   certified = λ all. subst (All IsTable) (sym pushed) (All-push IsTable old table all is);
 }
-
--- nothing for a track without one
-pub Adds-none :
-    (apps : List App) (key : TrackKey) (old new : List Certificate) →
-    net_among apps key ≡ None → new ≡ old → Adds apps (key ∷ []) old new
-Adds-none apps key old new there same = record {
-  nets =
-      ap (map net_of_table) same
-      ∙ sym (append-nil (map net_of_table old))
-      ∙ ap (λ (found : Option Net). map net_of_table old ++ filter_map (λ (n : ℕ). found) (0 ∷ [])) (sym there);
-  certified = λ all. subst (All IsTable) (sym same) all;
-}
-
--- nothing for no track
-pub Adds-nothing : (apps : List App) (old : List Certificate) → Adds apps [] old old
-Adds-nothing apps old = record { nets = sym (append-nil (map net_of_table old)); certified = λ all. all }
 
 -- those of some tracks, then those of others
 pub Adds-both :

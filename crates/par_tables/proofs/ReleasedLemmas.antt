@@ -1,16 +1,14 @@
 -- In a valid content each target is a release.
-use Rattle.std.proofs.Common.{◌≡◌, ℕ, zero, suc, ◌+◌, ◌<◌, ◌&&◌, ◌||◌, Bool, true, false, cond, not, nat_le, List, [], ◌∷◌, length, reverse, Option, None, Some, refl, sym, ap, ◌∙◌, subst, arith}
+use Rattle.std.proofs.Common.{◌≡◌, ℕ, zero, suc, ◌+◌, ◌<◌, ◌&&◌, ◌||◌, Bool, true, false, cond, not, nat_le, List, [], ◌∷◌, length, reverse, Option, None, Some, refl, sym, ap, ◌∙◌, arith}
 use Rattle.std.specs.List.{find, list_all, list_any, position, position_or_len, slice_get}
 use Rattle.std.specs.Option.{is_some, option_and_then, option_map}
 use Rattle.std.proofs.lemmas.Bool.{and_parts, lt-ltb}
-use Rattle.std.proofs.lemmas.List.Elements.{All-from_recursion}
 use Rattle.std.proofs.lemmas.List.Sorted.{IsPermutation-reverse, list_any-IsPermutation}
-use Rattle.std.proofs.lemmas.Option.{get_or_from_slice_get, slice_get_within}
 use Rattle.std.proofs.lemmas.Slice.Eq.{bytes_eq-Decides}
 use Rattle.catalogue.specs.Forms.{is_cohort_name}
 use Rattle.catalogue.specs.Limits.{max_share}
 use Rattle.catalogue.specs.Lookups.{has_release, is_release}
-use Rattle.catalogue.specs.Validity.{IsValid, IsValidApp, is_released, is_valid_cohort}
+use Rattle.catalogue.specs.Validity.{is_released, is_valid_cohort}
 use Rattle.catalogue.specs.declared.content.App.{App}
 use Rattle.catalogue.specs.declared.content.Cohort.{Cohort}
 use Rattle.catalogue.specs.declared.content.Release.{Release}
@@ -146,11 +144,3 @@ pub is_some-net_in :
 is_some-net_in app key cohort valid there =
     is_some-track app cohort key (list_all-slice_get (is_valid_cohort app.releases) app.cohorts key.cohort cohort valid there)
     ∙ sym (ap (λ (found : Option Cohort). is_some (option_and_then (λ c. option_map (net_of app key c) (cohort_target app c key)) found)) there)
-
--- the cohorts of an app of a valid content are valid
-pub valid-cohorts :
-    (apps : List App) (index : ℕ) (app : App) → IsValid apps → slice_get apps index ≡ Some app →
-    list_all (is_valid_cohort app.releases) app.cohorts ≡ true
-valid-cohorts apps index app valid there =
-    let within = slice_get_within apps index app there in
-    (subst IsValidApp (get_or_from_slice_get apps index app app there) (All-from_recursion IsValidApp apps valid.apps_valid index app within)).cohorts_valid

@@ -1,12 +1,11 @@
 -- The tracks that have a target, and the tables that are made for them.
-use Rattle.std.proofs.Common.{◌≡◌, ◌<◌, true, cond, List, [], ◌∷◌, ◌++◌, length, Option, None, Some, refl, sym, ap, ◌∙◌}
-use Rattle.std.specs.List.{All, filter, slice_get}
-use Rattle.std.specs.Option.{is_some, option_and_then}
+use Rattle.std.proofs.Common.{◌≡◌, cond, List, [], ◌∷◌, ◌++◌, Option, None, Some, refl, sym, ap, ◌∙◌}
+use Rattle.std.specs.List.{All, filter}
+use Rattle.std.specs.Option.{is_some}
 use Rattle.std.proofs.lemmas.List.Elements.{All-nil, filter_passes}
-use Rattle.std.proofs.lemmas.Option.{slice_get_within}
 use Rattle.catalogue.specs.declared.content.App.{App}
 use Rattle.payload_graph.specs.declared.payload.TrackKey.{TrackKey}
-use Rattle.payload_graph.specs.Net.{Net, net_among, net_in}
+use Rattle.payload_graph.specs.Net.{Net, net_among}
 use Rattle.price_cert.specs.Tables.{Certificate}
 use Rattle.par_tables.proofs.PlaceLemmas.{found_net, nets_of-cons}
 use Rattle.par_tables.specs.Marks.{marked_keys, marked_tracks, AreTablesFor, Marks}
@@ -38,16 +37,6 @@ nets_of-targeted apps (key ∷ keys) = step (nets_of-targeted apps keys) (net_am
 -- those that are left have one
 pub All-targeted : (apps : List App) (keys : List TrackKey) → All (HasTarget apps) (filter (has_target apps) keys)
 All-targeted apps keys = filter_passes (has_target apps) keys
-
--- the app of such a track is there
-pub HasTarget-app : (apps : List App) (key : TrackKey) → HasTarget apps key → key.app < length apps
-HasTarget-app apps key has = cases (slice_get apps key.app) refl has
-  where
-    cases :
-        (found : Option App) → slice_get apps key.app ≡ found →
-        is_some (option_and_then (λ app. net_in app key) found) ≡ true → key.app < length apps
-    cases None is none = cc
-    cases (Some app) is some = slice_get_within apps key.app app is
 
 -- the tables that were made for the tracks that have a target are all tables
 pub AreTables-tracks :

@@ -1,5 +1,5 @@
 -- The doors of an app's releases, by index.
-use Rattle.std.proofs.Common.{◌≡◌, ℕ, ◌+◌, ◌<◌, ◌≤◌, true, List, [], ◌∷◌, length, get_or, ap, ◌∙◌, arith}
+use Rattle.std.proofs.Common.{◌≡◌, ℕ, ◌+◌, ◌<◌, true, List, [], ◌∷◌, length, get_or, ap, ◌∙◌, arith}
 use Rattle.std.specs.List.{All, enumerate_from}
 use Rattle.std.proofs.lemmas.List.{get_or-map, length-map}
 use Rattle.std.proofs.lemmas.List.FromFn.{get_or-enumerate_from, length-enumerate_from}
@@ -7,7 +7,6 @@ use Rattle.catalogue.specs.Forms.{is_size}
 use Rattle.catalogue.specs.declared.content.Cohort.{Cohort}
 use Rattle.catalogue.specs.declared.content.Release.{Release}
 use Rattle.cohorts.specs.declared.pin.Pin.{Pin}
-use Rattle.payload_graph.proofs.FloorLemmas.{place_of-bound}
 use Rattle.payload_graph.specs.Net.{door_of, doors_of}
 use Rattle.payload_graph.specs.Soundness.{AreBounded, AreNumbered, no_door}
 use Rattle.payload_graph.specs.declared.door.Door.{Door}
@@ -52,15 +51,3 @@ All-sized-doors_of cohort pin releases bounded k d within =
     let e = (some_release releases k fits).0 in
     ap (λ (door : Door). is_size door.bytes) (get_or-doors_of cohort pin releases k d e fits)
     ∙ bounded.sized k e fits
-
--- a door's floor is at most the number of doors
-pub All-floors-doors_of :
-    (cohort : Cohort) (pin : Pin) (releases : List Release) →
-    All (λ (door : Door). door.floor ≤ length (doors_of cohort pin releases)) (doors_of cohort pin releases)
-All-floors-doors_of cohort pin releases k d within =
-    let sized = length-doors_of cohort pin releases in
-    let fits : k < length releases = omega arith in
-    let e = (some_release releases k fits).0 in
-    let own = ap (λ (door : Door). door.floor) (get_or-doors_of cohort pin releases k d e fits) in
-    let bound = place_of-bound (get_or releases k e).floor releases in
-    omega arith

@@ -1,7 +1,7 @@
 -- The floor of a release as an index: the one place at which versions and indexes meet.
 use Rattle.std.proofs.Common.{◌≡◌, ℕ, ◌<◌, ◌≤◌, ◌&&◌, inl, inr, Bool, false, true, refl, leb, not, List, length, get_or, sym, ap, ◌∙◌, arith}
 use Rattle.std.proofs.lemmas.Bool.{cases_eq, cases_lt, false_from_ne_true, false≢true, le-leb, lt-leb, not-false, not-true, not_from_false, not_from_true}
-use Rattle.std.proofs.lemmas.List.Sums.{prefix_len-le-length, prefix_len_passes, prefix_len_stops}
+use Rattle.std.proofs.lemmas.List.Sums.{prefix_len_passes, prefix_len_stops}
 use Rattle.catalogue.specs.VersionLaws.{BelowIsTransitive}
 use Rattle.catalogue.specs.Versions.{is_below}
 use Rattle.values.specs.Ordered.{ascend}
@@ -15,10 +15,6 @@ and-swap true true = refl
 and-swap true false = refl
 and-swap false true = refl
 and-swap false false = refl
-
--- a version's place is at most the number of releases
-pub place_of-bound : (version : List ℕ) (releases : List Release) → place_of version releases ≤ length releases
-place_of-bound version releases = prefix_len-le-length (λ release. not (not (is_below release.version version))) releases
 
 -- a release of an index is at or above a version exactly if the version's place is at most the index
 pub place_of-le :

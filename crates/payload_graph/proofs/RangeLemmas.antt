@@ -48,11 +48,6 @@ pub take-between :
 take-between xs low high n fits =
     sym (drop-take low n (take high xs)) ∙ ap (drop low) (take-take (low + n) high xs fits)
 
--- the items at the front of a list are those of a range of it
-pub between-add :
-    {A : Type 0} (xs : List A) (low n : ℕ) → between low (low + n) xs ≡ take n (drop low xs)
-between-add xs low n = drop-take low n xs
-
 -- how a slice's range is read
 pub between-range :
     {A : Type 0} (xs : List A) (low high : ℕ) →

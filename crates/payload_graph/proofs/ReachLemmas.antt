@@ -2,7 +2,7 @@
 use Rattle.std.proofs.Common.{◌≡◌, ℕ, zero, suc, ◌+◌, ◌-◌, ◌<◌, ◌≤◌, ◌||◌, Bool, true, false, cond, List, [], ◌∷◌, length, get_or, take, refl, sym, ap, ◌∙◌, arith, length-drop}
 use Rattle.std.specs.List.{list_any}
 use Rattle.std.proofs.lemmas.List.{length-take-le}
-use Rattle.payload_graph.proofs.RangeLemmas.{between-more, between-none, take-between}
+use Rattle.payload_graph.proofs.RangeLemmas.{between-more, take-between}
 use Rattle.payload_graph.specs.Net.{between, to_stone}
 use Rattle.payload_graph.specs.Soundness.{no_door, reach_of}
 use Rattle.payload_graph.specs.declared.door.Door.{Door}
@@ -72,12 +72,6 @@ stone_before (door ∷ doors) (suc k) past within =
 pub length-between : {A : Type 0} (xs : List A) (low high : ℕ) → high ≤ length xs → length (between low high xs) ≡ high - low
 length-between xs low high within =
     length-drop low (take high xs) ∙ ap (λ n. n - low) (length-take-le high xs within)
-
--- the target's window is empty
-pub reach_of-target : (target : ℕ) (doors : List Door) → reach_of target doors target ≡ target + 1
-reach_of-target target doors =
-    let empty = between-none doors (target + 1) (target + 1) (omega arith) in
-    ap (λ items. target + 1 + length (to_stone items)) empty ∙ (omega arith)
 
 -- a window is the next door and, unless that is a stone, the next window
 pub to_stone-more :

@@ -1,5 +1,5 @@
 -- The walk along the differentials and the releases.
-use Rattle.std.proofs.Common.{◌≡◌, ℕ, ◌+◌, ◌<◌, ◌≤◌, ◌&&◌, ◌⊎◌, inl, inr, true, List, [], ◌∷◌, ◌++◌, length, get_or, map, take, refl, sym, ap, ◌∙◌, arith}
+use Rattle.std.proofs.Common.{◌≡◌, ℕ, ◌+◌, ◌<◌, ◌≤◌, ◌&&◌, ◌⊎◌, inl, inr, true, List, [], ◌∷◌, ◌++◌, length, get_or, map, take, sym, ap, ◌∙◌, arith}
 use Rattle.std.specs.List.{list_all}
 use Rattle.std.specs.Str.{bytes_eq}
 use Rattle.std.proofs.lemmas.Bool.{and_parts, or_cases}
@@ -41,13 +41,6 @@ pub record HasWalked (releases : List Release) (diffs : List Diff) (index from t
   pub made : edges ≡ map (edge_of releases) (take index diffs)
   pub from_low : (k : ℕ) (d : Diff) → index ≤ k → k < length diffs → from ≤ index_of releases (get_or diffs k d).from
   pub to_low : (k : ℕ) (d : Diff) → index ≤ k → k < length diffs → index_of releases (get_or diffs k d).from ≡ from → to ≤ index_of releases (get_or diffs k d).to
-
-pub HasWalked-none : (releases : List Release) (diffs : List Diff) → HasWalked releases diffs 0 0 0 []
-HasWalked-none releases diffs = record {
-  made = refl;
-  from_low = λ k d low within. omega arith;
-  to_low = λ k d low within same. omega arith;
-}
 
 -- a differential between two indexes
 abbrev pub differ : ℕ → ℕ → ℕ → Edge

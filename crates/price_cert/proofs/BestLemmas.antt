@@ -33,12 +33,6 @@ list_all-agree {A} p q (x ∷ xs) agree =
     ap (λ b. b && list_all p xs) (All-head (λ (y : A). p y ≡ q y) x xs agree)
     ∙ ap (λ b. q x && b) (list_all-agree p q xs (All-tail (λ (y : A). p y ≡ q y) x xs agree))
 
-pub list_any-agree : {A : Type 0} (p q : A → Bool) (xs : List A) → All (λ x. p x ≡ q x) xs → list_any p xs ≡ list_any q xs
-list_any-agree p q [] agree = refl
-list_any-agree {A} p q (x ∷ xs) agree =
-    ap (λ b. b || list_any p xs) (All-head (λ (y : A). p y ≡ q y) x xs agree)
-    ∙ ap (λ b. q x || b) (list_any-agree p q xs (All-tail (λ (y : A). p y ≡ q y) x xs agree))
-
 pub list_any-map : {A B : Type 0} (p : B → Bool) (f : A → B) (xs : List A) → list_any p (map f xs) ≡ list_any (λ x. p (f x)) xs
 list_any-map p f [] = refl
 list_any-map p f (x ∷ xs) = ap (λ b. p (f x) || b) (list_any-map p f xs)
@@ -204,15 +198,6 @@ IsBest-map rows doors from other row best = record { behind = behinds row best.b
         list_any-map (is_next rows price kind to) (full other) doors
         ∙ sym (list_any-map (is_next rows price kind to) (full from) doors)
         ∙ names
-
--- the same, if the same doors open from both
-pub IsBest-from :
-    (rows : List Row) (doors : List Door) (from other : ℕ) (row : Row) →
-    filter (opens from) doors ≡ filter (opens other) doors →
-    IsBest rows (fulls from doors) row → IsBest rows (fulls other doors) row
-IsBest-from rows doors from other row same best =
-    subst (λ (ds : List Door). IsBest rows (map (full other) ds) row) same
-    (IsBest-map rows (filter (opens from) doors) from other row best)
 
 -- the same, if fewer doors open from the other, and that of the row's payload is one of them
 pub IsBest-fewer :

@@ -1,20 +1,16 @@
 -- The best full packages of neighbours' windows, and one differential more.
-use Rattle.std.proofs.Common.{◌≡◌, ℕ, ◌+◌, ◌<◌, ◌≤◌, ◌&&◌, inl, inr, Bool, true, false, cond, eqb, leb, ltb, List, [], ◌∷◌, ◌++◌, get_or, length, take, slice_get, Option, None, Some, refl, sym, ap, ◌∙◌, subst, arith}
-use Rattle.std.specs.List.{All, filter}
+use Rattle.std.proofs.Common.{◌≡◌, ℕ, ◌+◌, ◌<◌, ◌≤◌, ◌&&◌, inl, inr, true, false, cond, eqb, leb, ltb, List, [], ◌∷◌, ◌++◌, get_or, length, take, slice_get, Option, None, Some, refl, sym, ap, ◌∙◌, subst, arith}
 use Rattle.std.specs.Option.{option_map_or}
 use Rattle.std.proofs.lemmas.Bool.{and_from, and_parts, cases_lt, eq-eqb, eqb-true, false≢true, le-leb, leb-true, lt-leb, lt-ltb}
-use Rattle.std.proofs.lemmas.List.Elements.{All-head, All-tail}
 use Rattle.std.proofs.lemmas.Option.{get_or_from_slice_get}
 use Rattle.std.proofs.lemmas.List.{append_assoc, take_more}
-use Rattle.catalogue.specs.Forms.{is_size}
 use Rattle.payload_graph.specs.Laws.{WindowsGrowDown, WindowsHoldDoors}
 use Rattle.payload_graph.specs.Net.{Net, fulls, opens, window}
 use Rattle.payload_graph.specs.Soundness.{AreNumbered, is_floor_of, no_door}
 use Rattle.payload_graph.specs.declared.door.Door.{Door}
 use Rattle.payload_graph.specs.declared.edge.Edge.{Edge}
 use Rattle.price_cert.specs.declared.row.Row.{Row}
-use Rattle.price_cert.specs.declared.row.Row.TheVariants.{Nothing}
-use Rattle.price_cert.proofs.BestLemmas.{IsBest-back, IsBest-door_back, IsBest-door_front, IsBest-fewer, IsBest-nothing}
+use Rattle.price_cert.proofs.BestLemmas.{IsBest-back, IsBest-door_back, IsBest-door_front, IsBest-fewer}
 use Rattle.price_cert.specs.Best.{IsBest, beyond, improved, is_still_open, lower, taken}
 
 -- a window below the target is a door before the rest of it
@@ -28,13 +24,6 @@ IsBest-below net rows from doors rest result grow within below same is known =
     subst (λ (row : Row). IsBest rows (fulls from (window net from)) row) (sym (is ∙ ap (λ (ds : List Door). taken rows rest from (get_or ds (from + 1) no_door)) same))
     (subst (λ (ds : List Door). IsBest rows (fulls from ds) (taken rows rest from (get_or net.doors (from + 1) no_door))) (sym (grow net from within below))
     (IsBest-door_front rows (beyond net from) (get_or net.doors (from + 1) no_door) from rest known))
-
--- after a stone nothing is left of the window
-pub IsBest-stone :
-    (net : Net) (rows : List Row) (from : ℕ) → (get_or net.doors (from + 1) no_door).stone ≡ true →
-    IsBest rows (fulls from (beyond net from)) Nothing
-IsBest-stone net rows from stone =
-    subst (λ (ds : List Door). IsBest rows (fulls from ds) Nothing) (sym (ap (λ b. cond b [] (window net (from + 1))) stone)) (IsBest-nothing rows)
 
 -- after another door the next window is
 pub IsBest-beyond :
@@ -72,13 +61,6 @@ IsBest-still net rows from doors row hold numbered same still known =
     opened to (Some found) is holds door own =
         ap (opens from) (sym own ∙ get_or_from_slice_get net.doors to found no_door is) ∙ holds
 
--- tests that agree keep the same items
-filter-agree : {A : Type 0} (p q : A → Bool) (xs : List A) → All (λ x. p x ≡ q x) xs → filter p xs ≡ filter q xs
-filter-agree p q [] agree = refl
-filter-agree {A} p q (x ∷ xs) agree =
-    ap (λ b. cond b (x ∷ filter p xs) (filter p xs)) (All-head (λ (y : A). p y ≡ q y) x xs agree)
-    ∙ ap (λ (ys : List A). cond (q x) (x ∷ ys) ys) (filter-agree p q xs (All-tail (λ (y : A). p y ≡ q y) x xs agree))
-
 -- a lower door whose floor isn't the next release opens from both or from neither
 pub opens-both :
     (from : ℕ) (door : Door) → door.to ≤ from → is_floor_of (from + 1) door ≡ false →
@@ -105,19 +87,6 @@ pub IsBest-lower :
 IsBest-lower net rows from row rolls known =
     subst (λ (ds : List Door). IsBest rows (fulls from ds) row) (sym (ap (λ b. cond b (take from net.doors) []) rolls)) known
 
--- without a rollback there are none
-pub IsBest-level :
-    (net : Net) (rows : List Row) (from : ℕ) (best : Row) → net.rollback ≡ false →
-    IsBest rows (fulls from (lower net from)) best → IsBest rows (fulls (from + 1) (lower net (from + 1))) best
-IsBest-level net rows from best rolls known =
-    subst (λ (ds : List Door). IsBest rows (fulls (from + 1) ds) best) (sym (ap (λ b. cond b (take (from + 1) net.doors) []) rolls))
-    (subst (λ (ds : List Door). IsBest rows (fulls from ds) best) (ap (λ b. cond b (take from net.doors) []) rolls) known)
-
-pub IsBest-none :
-    (net : Net) (rows : List Row) (from : ℕ) → net.rollback ≡ false → IsBest rows (fulls from (lower net from)) Nothing
-IsBest-none net rows from rolls =
-    subst (λ (ds : List Door). IsBest rows (fulls from ds) Nothing) (sym (ap (λ b. cond b (take from net.doors) []) rolls)) (IsBest-nothing rows)
-
 -- one door more
 pub IsBest-door :
     (rows : List Row) (from : ℕ) (doors : List Door) (index : ℕ) (d : Door) (row result : Row) →
@@ -142,12 +111,3 @@ IsBest-differ rows edges differs index d row result within is known =
     grown =
         ap (λ (es : List Edge). edges ++ es) (take_more differs index d within)
         ∙ sym (append_assoc edges (take index differs) (get_or differs index d ∷ []))
-
--- the doors of a window have valid sizes
-pub All-sized-window :
-    (net : Net) (from : ℕ) → WindowsHoldDoors → AreNumbered net.doors →
-    All (λ (door : Door). is_size door.bytes ≡ true) net.doors →
-    All (λ (door : Door). is_size door.bytes ≡ true) (window net from)
-All-sized-window net from hold numbered sized k d within =
-    let is = hold net from numbered k d within in
-    subst (λ (door : Door). is_size door.bytes ≡ true) is.own (sized (get_or (window net from) k d).to no_door is.there)

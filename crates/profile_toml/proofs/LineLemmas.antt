@@ -1,7 +1,7 @@
 -- Strings in which no line ends, and the indices among them.
-use Rattle.std.proofs.Common.{◌≡◌, ℕ, zero, suc, ◌+◌, ◌/◌, ◌%◌, ◌<◌, ◌==◌, ◌&&◌, ◌||◌, cond, nat_lt, List, [], ◌∷◌, ◌++◌, Bool, true, false, codes, decimal, refl, arith, lt-ltb, eqb-true}
+use Rattle.std.proofs.Common.{◌≡◌, ℕ, zero, suc, ◌+◌, ◌/◌, ◌%◌, ◌<◌, ◌==◌, ◌||◌, cond, nat_lt, List, [], ◌∷◌, ◌++◌, Bool, true, false, codes, decimal, refl, arith, lt-ltb, eqb-true}
 use Rattle.std.specs.Fmt.{digit_glyph, digits, digits_onto}
-use Rattle.std.specs.List.{list_all, list_any}
+use Rattle.std.specs.List.{list_any}
 use Rattle.std.proofs.lemmas.List.Folds.{list_any-append}
 use Rattle.profile_toml.specs.TableLaws.{IsOneLine, ends_line}
 use Rattle.profile_toml.specs.Paths.{indexed}
@@ -41,18 +41,6 @@ pub IsOneLine-cond : (test : Bool) (one other : List ℕ)
     → IsOneLine (cond test one other)
 IsOneLine-cond true one other of_one of_other = of_one refl
 IsOneLine-cond false one other of_one of_other = of_other refl
-
-pub all_true : (left right : Bool) → (left && right) ≡ true → (left ≡ true) × (right ≡ true)
-all_true true right all = (refl, all)
-all_true false right all = absurd (cc)
-
-pub IsOneLine-all : (is_kind : ℕ → Bool) → is_kind 10 ≡ false → is_kind 13 ≡ false
-    → (text : List ℕ) → list_all is_kind text ≡ true → IsOneLine text
-IsOneLine-all is_kind no_feed no_return [] of_kind = refl
-IsOneLine-all is_kind no_feed no_return (byte ∷ text) of_kind =
-    let parts = all_true (is_kind byte) (list_all is_kind text) of_kind in
-    IsOneLine-cons byte text (ends_line-apart is_kind no_feed no_return byte parts.0)
-    (IsOneLine-all is_kind no_feed no_return text parts.1)
 
 ends_line-above : (byte : ℕ) → 13 < byte → ends_line byte ≡ false
 ends_line-above byte above = ends_line-apart (nat_lt 13) refl refl byte (lt-ltb 13 byte above)

@@ -1,6 +1,6 @@
 -- The errors of keys and of lists of tables, whose paths are one line. A reading of a table is
 -- `FailsInOneLine` a line if it reports one of each table whose place is one line.
-use Rattle.std.proofs.Common.{◌≡◌, ℕ, ◌+◌, List, [], Bool, true, false, cond, Option, Some, None, Result, Ok, Err, codes, refl}
+use Rattle.std.proofs.Common.{ℕ, ◌+◌, List, [], Bool, true, false, cond, Option, Some, None, Result, Ok, Err}
 use Rattle.std.specs.List.{list_any}
 use Rattle.std.specs.Option.{ok_or, option_map_or}
 use Rattle.std.specs.Str.{bytes_eq}
@@ -8,7 +8,7 @@ use Rattle.toml.specs.Data.{Data, Items, no_items, item, Members, no_members, me
 use Rattle.profile_toml.specs.Fields.{◌>>=◌, if_given, known, known_among, optional, required}
 use Rattle.profile_toml.specs.TableLaws.{IsOneLine}
 use Rattle.profile_toml.specs.Lists.{all_tables, each, each_from, element, optional_tables, required_tables, tables_of}
-use Rattle.profile_toml.specs.Paths.{invalid_element, invalid_key, indexed, path_of}
+use Rattle.profile_toml.specs.Paths.{invalid_element, invalid_key, path_of}
 use Rattle.profile_toml.specs.Tables.{PlacedList, PlacedTable, element_table, list_at}
 use Rattle.profile_toml.specs.Strings.{optional_strings, string_element, strings_from, strings_if_given, strings_of}
 use Rattle.profile_toml.specs.declared.tables.path.BadEntry.{BadEntry}
@@ -25,11 +25,7 @@ GivesOrLine : {A : Type 0} → (A → Type 0) → Result A BadEntry → Type 0
 GivesOrLine Has (Ok value) = Has value
 GivesOrLine Has (Err bad) = IsOneLine bad.path
 
-pub IsOneLine-told : {A : Type 0} (read : Result A BadEntry) → HasLine read
-    → (bad : BadEntry) → read ≡ Err bad → IsOneLine bad.path
 unfolding HasLine
-IsOneLine-told (Ok value) has bad same = absurd (cc)
-IsOneLine-told (Err told) has bad same = let this : told ≡ bad = cc (same) in rw (← this) has
 
 pub HasLine-ok : {A : Type 0} (value : A) → HasLine {A = A} (Ok value)
 unfolding HasLine

@@ -27,13 +27,6 @@ releases_at-there : (apps : List App) (index : ℕ) (app : App)
     → slice_get apps index ≡ Some app → releases_at apps index ≡ app.releases
 releases_at-there apps index app there = rw there refl
 
--- what holds among the apps holds of the key's app
-pub IsChoice-among :
-    (apps : List App) (key : TrackKey) (place : Place) (choice : Option Choice) (app : App) →
-    slice_get apps key.app ≡ Some app → IsChoiceAmong apps key place choice → IsChoice app key place choice
-IsChoice-among apps key place choice app there chosen =
-    subst (λ (o : Option App). IfSome o (λ app. IsChoice app key place choice)) there chosen
-
 -- a chain ends at a target
 no_chain :
     (app : App) (key : TrackKey) (place : Place) (payloads : List Payload) →

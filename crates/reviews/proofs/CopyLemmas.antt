@@ -1,6 +1,6 @@
 -- A review that a change leaves as it is has no changes.
-use Rattle.std.proofs.Common.{◌≡◌, ℕ, ◌++◌, ◌&&◌, not, inl, inr, Bool, true, false, cond, List, [], ◌∷◌, get_or, length, Option, None, Some, IfSome, refl, sym, ap, ap₂, ◌∙◌, subst, arith}
-use Rattle.std.specs.List.{All, cons_option, filter_map, range_with_len, slice_get}
+use Rattle.std.proofs.Common.{◌≡◌, ℕ, ◌++◌, ◌&&◌, not, inl, inr, true, false, cond, List, [], ◌∷◌, get_or, length, Option, None, Some, IfSome, refl, sym, ap, ap₂, ◌∙◌, subst, arith}
+use Rattle.std.specs.List.{cons_option, filter_map, range_with_len, slice_get}
 use Rattle.std.specs.Option.{is_some, option_and_then, option_map, option_map_or}
 use Rattle.std.specs.Str.{bytes_eq}
 use Rattle.std.proofs.lemmas.Bool.{cases_lt, false≢true, eq-eqb}
@@ -24,9 +24,8 @@ use Rattle.payload_graph.specs.declared.payload.TrackKey.{TrackKey}
 use Rattle.payload_graph.specs.declared.place.Place.{Place}
 use Rattle.payload_graph.specs.declared.place.Place.TheVariants.{At}
 use Rattle.reviews.specs.Changes.{change_at, change_from, changes_between, changes_of_pair, clients_of, is_changed, is_same_form, is_same_payload, is_same_version, version_to, was_at}
-use Rattle.reviews.specs.Copies.{AreKept, HasSource, HaveSources, IsCopy}
-use Rattle.reviews.specs.Reviews.{AreOutcomes, IsOutcome, IsTrackReview, IsTrackReviewAmong}
-use Rattle.reviews.specs.Routes.{flag_at}
+use Rattle.reviews.specs.Copies.{HasSource, HaveSources, IsCopy}
+use Rattle.reviews.specs.Reviews.{AreOutcomes, IsOutcome, IsTrackReview}
 use Rattle.reviews.specs.declared.change.Change.{Change}
 use Rattle.reviews.specs.declared.outcome.Outcome.{Outcome}
 use Rattle.reviews.specs.declared.outcome.Outcome.TheVariants.{Here, Next, Stuck}
@@ -167,21 +166,6 @@ changes_of_pair-source irreflexive before after olds old new source from valid t
     let same : new ≡ old = cc in
     ap (λ (r : TrackReview). changes_of_pair before after r new) (sym same)
     ∙ changes_of_pair-copy irreflexive before after olds new from valid copy
-
--- the review of a flagged app is a copy of the one before
-pub IsCopy-kept :
-    (before after : List App) (kept : List Bool) (olds : List TrackReview) (new : TrackReview) (from : ℕ) → AreKept before after kept →
-    All (IsTrackReviewAmong before) olds → flag_at kept new.key.app ≡ true → slice_get olds from ≡ Some new →
-    IsCopy before after olds new from
-IsCopy-kept before after kept olds new from are all flag there =
-    let same = are new.key.app flag in
-    let within = slice_get_within olds from new there in
-    let old : IsTrackReviewAmong before new = subst (IsTrackReviewAmong before) (get_or_from_slice_get olds from new new there) (all from new within) in
-    record {
-      there = there;
-      kept = same;
-      review = subst (λ (o : Option App). IfSome o (λ a. IsTrackReview a new)) (sym same) old;
-    }
 
 -- one review more, with its source
 pub HaveSources-more :

@@ -16,7 +16,7 @@ use Rattle.payload_graph.specs.declared.payload.TrackKey.{TrackKey}
 use Rattle.reviews.proofs.ChainLemmas.{IsChainedAs-routed, length-doors_of}
 use Rattle.reviews.proofs.LiftLemmas.{HasRelease-target, IsLifted-track, pin-lifted}
 use Rattle.reviews.specs.Lifts.{lifted, lifted_cohort, lifted_key, lifted_release, lifted_releases, target_version}
-use Rattle.reviews.specs.Reasons.{AreFirst, AreFreedAs, IsFirst, IsFreedAs, reason_at}
+use Rattle.reviews.specs.Reasons.{AreFirst, AreFreedAs, reason_at}
 use Rattle.reviews.specs.Routes.{AreRouted, IsRoute, IsRouted, flag_at, leads, net_of_roads}
 use Rattle.reviews.specs.Tracks.{IsTrackOf}
 use Rattle.reviews.specs.declared.cause.Cause.{Cause}
@@ -90,29 +90,6 @@ AreFirst-none app key =
       sized = length-replicate (length app.releases) Several;
       first = λ release within stuck. get_or-replicate (length app.releases) release Several Several within;
     }
-
--- one rule more, before those that were looked at
-pub AreFirst-marked :
-    (app : App) (key : TrackKey) (cause : Cause) (causes : List Cause) (flags : List Bool) (old new : List Reason) →
-    AreFreedAs app key cause flags →
-    length new ≡ length old →
-    ((release : ℕ) → release < length old → reason_at new release ≡ cond (flag_at flags release) (Alone cause) (reason_at old release)) →
-    AreFirst app key causes old →
-    AreFirst app key (cause ∷ causes) new
-AreFirst-marked app key cause causes flags old new freed same marked first =
-    let count = first.sized in
-    record {
-      sized = same ∙ first.sized;
-      first = λ release within stuck.
-          by_flag release (flag_at flags release) (freed.each release within) (marked release (omega arith))
-          (first.first release within stuck);
-    }
-  where
-    by_flag :
-        (release : ℕ) (flag : Bool) → IsFreedAs app key release cause flag → reason_at new release ≡ cond flag (Alone cause) (reason_at old release) →
-        IsFirst app key release causes (reason_at old release) → IsFirst app key release (cause ∷ causes) (reason_at new release)
-    by_flag release true freed is rest = inl (freed, is)
-    by_flag release false freed is rest = inr (freed, subst (IsFirst app key release causes) (sym is) rest)
 
 -- the reasons before an index are marked by their flags, and the others are as before
 pub record AreMarked (cause : Cause) (flags : List Bool) (old now : List Reason) (index : ℕ) : Type 0 where

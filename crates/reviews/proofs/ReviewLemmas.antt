@@ -8,7 +8,7 @@ use Rattle.std.proofs.lemmas.List.Elements.{All-push}
 use Rattle.std.proofs.lemmas.List.Folds.{list_any_at}
 use Rattle.catalogue.specs.declared.content.App.{App}
 use Rattle.catalogue.specs.declared.content.Cohort.{Cohort}
-use Rattle.payload_graph.specs.Chains.{cohort_target, target_index}
+use Rattle.payload_graph.specs.Chains.{cohort_target}
 use Rattle.payload_graph.specs.Net.{Net, net_among, net_in, net_of}
 use Rattle.payload_graph.specs.declared.payload.TrackKey.{TrackKey}
 use Rattle.payload_graph.specs.declared.place.Place.{Place}
@@ -27,7 +27,7 @@ use Rattle.price_cert.specs.declared.quotes.quote.Quote.TheVariants as quote
 use Rattle.reviews.proofs.ChainLemmas.{length-doors_of}
 use Rattle.reviews.specs.Reasons.{Explains, IsReason, IsStuck}
 use Rattle.reviews.proofs.ListLemmas.{map-mapped}
-use Rattle.reviews.specs.Reviews.{AreReviews, IsOutcome, IsTrackReview, IsTrackReviewAmong, is_unpriced, outcome_by}
+use Rattle.reviews.specs.Reviews.{AreReviews, IsOutcome, IsTrackReviewAmong, is_unpriced, outcome_by}
 use Rattle.reviews.specs.Tracks.{IsTrackOf}
 use Rattle.reviews.specs.declared.cause.Reason.{Reason}
 use Rattle.reviews.specs.declared.review.TrackReview.{TrackReview}
@@ -39,10 +39,6 @@ pub net_in-there :
     net_in app key ≡ Some net
 net_in-there apps app key net there made =
     sym (ap (λ (o : Option App). option_and_then (λ (a : App). net_in a key) o) there) ∙ made
-
-pub target_index-track : (app : App) (key : TrackKey) (cohort : Cohort) (target : ℕ) → IsTrackOf app key cohort target → target_index app key ≡ Some target
-target_index-track app key cohort target track =
-    ap (λ (o : Option Cohort). option_and_then (λ (c : Cohort). cohort_target app c key) o) track.cohort_there ∙ track.target_there
 
 net_in-track :
     (app : App) (key : TrackKey) (cohort : Cohort) (target : ℕ) → IsTrackOf app key cohort target →
@@ -117,12 +113,6 @@ pub IsQuote-there :
     (apps : List App) (app : App) (key : TrackKey) (place : Place) (said : Quote) → slice_get apps key.app ≡ Some app →
     IsQuoteAmong apps key place said → IsQuote app key place said
 IsQuote-there apps app key place said there is = subst (λ (o : Option App). IfSome o (λ a. IsQuote a key place said)) there is
-
--- so is a review
-pub IsTrackReviewAmong-there :
-    (apps : List App) (app : App) (review : TrackReview) → slice_get apps review.key.app ≡ Some app → IsTrackReview app review →
-    IsTrackReviewAmong apps review
-IsTrackReviewAmong-there apps app review there is = subst (λ (o : Option App). IfSome o (λ a. IsTrackReview a review)) (sym there) is
 
 abbrev key_of : TrackReview → TrackKey
 key_of review = review.key

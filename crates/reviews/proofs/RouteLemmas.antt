@@ -1,14 +1,13 @@
 -- Which releases have a way of full packages to the target, by those that they lead to.
-use Rattle.std.proofs.Common.{◌≡◌, ℕ, ◌+◌, ◌-◌, ◌<◌, ◌≤◌, ◌||◌, inl, inr, Bool, true, false, cond, drop, take, List, [], ◌∷◌, eqb, length, get_or, set, refl, sym, ap, ◌∙◌, subst, arith, get_or-set_other, get_or-set_same}
+use Rattle.std.proofs.Common.{◌≡◌, ℕ, ◌+◌, ◌-◌, ◌<◌, ◌≤◌, inl, inr, Bool, true, false, cond, drop, take, List, [], ◌∷◌, eqb, length, get_or, set, refl, sym, ap, ◌∙◌, subst, arith, get_or-set_other, get_or-set_same}
 use Rattle.std.specs.List.{All, Contains, list_any}
 use Rattle.std.proofs.lemmas.Bool.{cases_eq, eqb-true, eq-eqb, false≢true, le-ltb}
 use Rattle.std.proofs.lemmas.List.Elements.{All-contains, All-weaker}
 use Rattle.std.proofs.lemmas.List.Folds.{Any-from_list_any, list_any_at}
 use Rattle.payload_graph.specs.Laws.{FullsLeadNearer}
-use Rattle.std.proofs.lemmas.List.{at_drop_more, drop-take}
+use Rattle.std.proofs.lemmas.List.{drop-take}
 use Rattle.payload_graph.specs.Net.{Net, between, full, fulls, opens, to_stone, window}
 use Rattle.payload_graph.specs.Soundness.{AreNumbered, LeadsNearer}
-use Rattle.payload_graph.specs.declared.door.Door.{Door}
 use Rattle.payload_graph.specs.declared.edge.Edge.{Edge}
 use Rattle.reviews.proofs.ListLemmas.{list_any-filtered}
 use Rattle.reviews.specs.Routes.{AreRouted, IsRoute, IsRouted, flag_at, leads, leads_to_flag}
@@ -123,21 +122,6 @@ module _ (nearer : FullsLeadNearer) (net : Net) (flags : List Bool) (from : ℕ)
       covers : (to : ℕ) → LeadsNearer net.target from to → (0 ≤ to) × (to < from)
       covers to (inl up) = let less = up.1 in (omega arith, omega arith)
       covers to (inr down) = let less = down.1 in (omega arith, less)
-
--- the target's flag
-pub AreRouted-target :
-    (net : Net) (flags : List Bool) → net.target < length flags → AreRouted net (set flags net.target true) net.target (net.target + 1)
-AreRouted-target net flags within index low high =
-    let same : net.target ≡ index = omega arith in
-    subst (λ n. IsRouted net n (flag_at (set flags net.target true) n)) same
-    (subst (IsRouted net net.target) (sym (get_or-set_same flags net.target true false within)) ([], refl))
-
--- the doors up to the first stone, from one of them on
-pub list_any-to_stone :
-    (p : Door → Bool) (doors : List Door) (index : ℕ) (d : Door) → index < length doors →
-    list_any p (to_stone (drop index doors))
-    ≡ (p (get_or doors index d) || list_any p (cond (get_or doors index d).stone [] (to_stone (drop (index + 1) doors))))
-list_any-to_stone p doors index d within = at_drop_more (λ (xs : List Door). list_any p (to_stone xs)) doors index d within
 
 -- a window at or below the target is a slice of the doors, up to the first stone
 pub window-slice :

@@ -1,8 +1,7 @@
 -- The slots of a port over sockets.
-use Rattle.std.proofs.Common.{◌≡◌, ◌∙◌, ◌<◌, ◌≤◌, ℕ, zero, suc, Bool, true, List, [], ◌∷◌, length, Option, None, Some, refl, sym, ap, inl, inr, arith}
+use Rattle.std.proofs.Common.{◌≡◌, ◌∙◌, ◌<◌, ◌≤◌, ℕ, zero, suc, Bool, List, [], ◌∷◌, length, Option, None, Some, refl, sym, ap, inl, inr, arith}
 use Rattle.std.specs.Prelude.{◌⊎◌, option_map}
 use Rattle.http_ports.specs.Loops.{kept_at}
-use Rattle.http_ports.specs.Ports.{IsWaiting}
 use Rattle.http_ports.specs.Traffic.{IsOpen, Slot, Traffic}
 use Rattle.http_ports.specs.declared.last.Last.{Last}
 use Rattle.http_ports.specs.declared.last.Last.TheVariants as last
@@ -26,22 +25,6 @@ open_of (Some traffic) waits some = (traffic, refl, cc (sym some))
 -- a slot of which it is known has one
 pub is_open : (slot : Slot) (waits : Bool) → Some waits ≡ slot_waits slot → IsOpen slot
 is_open slot waits some = let (traffic, live, is) = open_of slot.current waits some in (traffic, live)
-
-waiting_of : (l : Last) → is_waiting l ≡ true → IsWaiting l
-waiting_of last.WaitsToRead is = inl refl
-waiting_of last.WaitsToWrite is = inr refl
-waiting_of last.Reported is = cc is
-waiting_of last.Passed is = cc is
-waiting_of last.Yields is = cc is
-waiting_of last.InputEnded is = cc is
-waiting_of last.ReadFailed is = cc is
-waiting_of last.WriteFailed is = cc is
-
--- one that waits does so for its peer
-pub waits_for_peer :
-    (slot : Slot) → slot_waits slot ≡ Some true → (traffic : Traffic) × (slot.current ≡ Some traffic) × IsWaiting traffic.last
-waits_for_peer slot some =
-    let (traffic, live, is) = open_of slot.current true (sym some) in (traffic, live, waiting_of traffic.last is)
 
 kept_at-past : {S : Type 0} (places : List (Option (Place S))) (at : ℕ) → length places ≤ at → kept_at places at ≡ None
 kept_at-past [] at past = refl

@@ -15,12 +15,6 @@ use Rattle.update_client.specs.declared.chunked.piece.Piece.{Piece}
 use Rattle.update_client.specs.declared.chunked.piece.Piece.TheVariants as piece
 use Rattle.update_client.proofs.ReadsLemmas.{Sees-after, Uses-front, Uses-then}
 
--- less than a piece
-pub part_short : (which : Piece) (bytes : List ℕ) → PieceFails which bytes fault.Ended → length bytes < 16384
-part_short piece.Line bytes part = omega (arith, part.0)
-part_short piece.End bytes part = omega (arith, part)
-part_short piece.Trailer bytes part = part.0
-
 -- bytes that are used after those of a content
 pub content_grows :
     (old mid new : Option (List ℕ)) (before between waiting after content : List ℕ) (count : ℕ) →

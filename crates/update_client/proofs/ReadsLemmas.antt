@@ -1,11 +1,10 @@
 -- Bytes that are read and used in parts, each after the one before.
-use Rattle.std.proofs.Common.{◌≡◌, ◌≢◌, ℕ, List, [], ◌++◌, take, drop, Option, Some, None, refl, sym, subst, ap, ◌∙◌, append_assoc, append-nil}
+use Rattle.std.proofs.Common.{◌≡◌, ℕ, List, [], ◌++◌, take, drop, Option, Some, None, refl, sym, subst, ap, ◌∙◌, append_assoc, append-nil}
 use Rattle.std.proofs.lemmas.List.{take-append-drop}
 use Rattle.std.specs.Io.KnownBytes.{Consumes}
-use Rattle.http_wire.specs.Devices.{Came, Given}
 use Rattle.update_client.specs.declared.heads.fault.LinkFault.{LinkFault}
 use Rattle.update_client.specs.declared.heads.fault.LinkFault.TheVariants as fault
-use Rattle.update_client.specs.Reads.{IsBroken, Sees, Uses}
+use Rattle.update_client.specs.Reads.{Sees, Uses}
 
 Consumes-none : (bytes : Option (List ℕ)) → Consumes bytes bytes []
 Consumes-none None = tt
@@ -22,30 +21,8 @@ Consumes-then (Some xs) (Some ys) None first second one two = absurd two
 Consumes-then (Some xs) (Some ys) (Some zs) first second one two =
     one ∙ ap (λ (rest : List ℕ). first ++ rest) two ∙ sym (append_assoc first second zs)
 
-pub Came-none : (known : Option (List ℕ)) (waiting : List ℕ) → Came known known waiting waiting
-Came-none known waiting = record { bytes = []; consumed = Consumes-none known; behind = sym (append-nil waiting) }
-
-pub Came-then :
-    (old mid new : Option (List ℕ)) (before between after : List ℕ) (count : ℕ) →
-    Came old mid before between →
-    Given mid new between after count →
-    Came old new before after
-Came-then old mid new before between after count came given = record {
-  bytes = came.bytes ++ given.bytes;
-  consumed = Consumes-then old mid new came.bytes given.bytes came.consumed given.consumed;
-  behind =
-      given.behind ∙ ap (λ (front : List ℕ). front ++ given.bytes) came.behind ∙ append_assoc before came.bytes given.bytes;
-}
-
 pub Uses-none : (known : Option (List ℕ)) (waiting : List ℕ) → Uses known known waiting waiting []
 Uses-none known waiting = record { bytes = []; consumed = Consumes-none known; cut = append-nil waiting }
-
-pub Uses-given :
-    (old new : Option (List ℕ)) (before after : List ℕ) (count : ℕ) →
-    Given old new before after count →
-    Uses old new before after []
-Uses-given old new before after count given =
-    record { bytes = given.bytes; consumed = given.consumed; cut = sym given.behind }
 
 pub Uses-front :
     (known : Option (List ℕ)) (waiting : List ℕ) (count : ℕ) →
@@ -101,22 +78,3 @@ Sees-after old mid new before between used part whole why uses fails sees = (
   subst (λ (text : List ℕ). whole text why) (seen_after before uses.bytes used between sees.0 uses.cut)
       (fails (between ++ sees.0) sees.2),
 )
-
-pub Sees-broken :
-    (old new : Option (List ℕ)) (before : List ℕ) (fails : List ℕ → LinkFault → Type 0) (why : LinkFault) →
-    IsBroken why →
-    Sees old new before fails why
-Sees-broken old new before fails fault.Memory broken = tt
-Sees-broken old new before fails fault.Read broken = tt
-Sees-broken old new before fails why broken = absurd broken
-
-pub Sees-found :
-    (old new : Option (List ℕ)) (before bytes : List ℕ) (fails : List ℕ → LinkFault → Type 0) (why : LinkFault) →
-    Consumes old new bytes →
-    why ≢ fault.Ended →
-    fails (before ++ bytes) why →
-    Sees old new before fails why
-Sees-found old new before bytes fails fault.Ended consumed other failed = absurd (other refl)
-Sees-found old new before bytes fails fault.Memory consumed other failed = tt
-Sees-found old new before bytes fails fault.Read consumed other failed = tt
-Sees-found old new before bytes fails why consumed other failed = (bytes, consumed, failed)

@@ -1,7 +1,7 @@
 -- The body of a reply: what came with its head, and what was read after.
-use Rattle.std.proofs.Common.{◌≡◌, ℕ, ◌-◌, ◌<◌, ◌≤◌, List, [], ◌∷◌, ◌++◌, length, take, drop, min, inl, inr, Option, Some, Result, Ok, Err, Vec, refl, sym, ap, ◌∙◌, arith, append_assoc, append-nil, length-append}
+use Rattle.std.proofs.Common.{◌≡◌, ℕ, ◌-◌, ◌≤◌, List, [], ◌∷◌, ◌++◌, length, take, drop, min, inl, inr, Option, Some, Result, Ok, Err, Vec, refl, sym, ap, ◌∙◌, arith, append_assoc, append-nil, length-append}
 use Rattle.std.specs.Io.KnownBytes.{Consumes}
-use Rattle.std.proofs.lemmas.List.{take-append-drop, take_all, drop_all, length-drop, length-take-le}
+use Rattle.std.proofs.lemmas.List.{take-append-drop, take_all, drop_all, length-take-le}
 use Rattle.httparse.specs.Grammar.{print_response}
 use Rattle.http_wire.specs.Devices.{Came}
 use Rattle.update_client.specs.Starts.{StartFound}
@@ -14,15 +14,9 @@ use Rattle.update_client.specs.Failures.{ChunkedRead}
 use Rattle.update_client.specs.Reads.{Sees}
 use Rattle.update_client.proofs.ReadsLemmas.{Sees-after}
 use Rattle.update_client.specs.Posts.{ReplyAwaited}
-use Rattle.update_client.specs.Replies.{Announces, BodyFails, BodyRead, HasBody, HeadFails, IsPostFault, PostedWithin, ReplyFails, RestRead}
+use Rattle.update_client.specs.Replies.{Announces, BodyFails, BodyRead, HasBody, HeadFails, IsPostFault, PostedWithin, ReplyFails}
 use Rattle.update_client.specs.declared.posting.Reply.{Reply}
 use Rattle.update_client.proofs.KnownLemmas.{Consumes-then}
-
--- a slice up to the end of the bytes
-pub after_start :
-    (held seen : List ℕ) (at : ℕ) → seen ≡ held → take (length seen - at) (drop at seen) ≡ drop at held
-after_start held seen at same =
-    take_all (length seen - at) (drop at seen) (omega (arith, length-drop at seen)) ∙ ap (drop at) same
 
 pub announced :
     (bytes : List ℕ) (start : Start) →

@@ -1,14 +1,11 @@
 -- One more step of a walk, and how it ends.
-use Rattle.std.proofs.Common.{◌≡◌, ℕ, ◌+◌, ◌<◌, List, [], ◌∷◌, ◌++◌, length, map, true, false, Option, Some, None, Result, Ok, Err, refl, sym, subst, ap, ◌∙◌, arith, append_assoc, append-nil, length-append, eq-eqb}
+use Rattle.std.proofs.Common.{◌≡◌, ℕ, ◌+◌, ◌<◌, List, [], ◌∷◌, ◌++◌, length, map, true, false, Option, Some, Ok, refl, sym, subst, ap, ◌∙◌, arith, append_assoc, length-append, eq-eqb}
 use Rattle.std.specs.Str.{bytes_eq}
-use Rattle.values.specs.declared.read_error.ReadError.{ReadError}
 use Rattle.update_client.specs.Installed.{Installed}
-use Rattle.update_client.specs.declared.fault.Fault.{Fault}
 use Rattle.update_client.specs.declared.hearing.Accepted.{Accepted}
 use Rattle.update_client.specs.declared.installer.Step.{Step}
-use Rattle.update_client.specs.declared.walking.Walk.{Walk}
 use Rattle.update_client.specs.Clients.{heard, part_of, address_of, client_after}
-use Rattle.update_client.specs.Walks.{Post, Commit, Turn, post_of, IsReadBack, IsTurn, Follows, posts_of, addresses_of, commit_of, bytes_of, Stops, Takes, Turned, Walks}
+use Rattle.update_client.specs.Walks.{Post, Commit, Turn, post_of, IsReadBack, IsTurn, Follows, posts_of, addresses_of, commit_of, bytes_of, Takes, Turned}
 
 -- an offer that was installed is a step
 pub turned_step : (client after : Installed) (steps : ℕ) (old between new : List Post)
@@ -77,19 +74,6 @@ pub record SoFar (client now : Installed) (old posts : List Post) (asked opened 
   pub count : steps ≡ length turns
   pub sum : bytes ≡ bytes_of turns
 
--- no step was made
-pub so_far-none : (client : Installed) (old : List Post) (asked : List (List ℕ)) (before : List Commit)
-    → SoFar client client old old asked asked before before 0 0
-so_far-none client old asked before = record {
-  turns = [];
-  follows = refl;
-  posted = sym (append-nil old);
-  reached = sym (append-nil asked);
-  committed = sym (append-nil before);
-  count = refl;
-  sum = refl;
-}
-
 -- one more step was made
 pub so_far-more : (client mid after : Installed) (old between new : List Post)
     (asked opening opened : List (List ℕ)) (before middle commits : List Commit) (steps bytes : ℕ) (step : Step) (received : List ℕ) (ended : Type 0)
@@ -113,52 +97,6 @@ so_far-more client mid after old between new asked opening opened before middle 
       count = omega (arith, so_far.count, length-append so_far.turns (turn ∷ []));
       sum = omega (arith, so_far.sum, ap (λ made. made.bytes) sized, bytes-more so_far.turns turn);
     }
-
--- there was no update after those steps
-pub walk_ends : (client mid after : Installed) (old between new : List Post)
-    (asked opening opened : List (List ℕ)) (before middle commits : List Commit) (steps bytes : ℕ) (received : List ℕ) (ended : Type 0)
-    → SoFar client mid old between asked opening before middle steps bytes
-    → Turned mid after steps between new opening opened middle commits received ended (Ok None)
-    → Walks client after old new asked opened before commits received ended
-    (Ok (record { steps = steps; bytes = bytes }))
-walk_ends client mid after old between new asked opening opened before middle commits steps bytes received ended so_far (reply, read, said, same, posted, reached, kept) =
-    let result : Result Walk (ReadError Fault) = Ok (record { steps = steps; bytes = bytes }) in
-    let P : Installed → Type 0 = λ m. Walks client m old new asked opened before commits received ended result in
-    subst P (sym same) (record {
-      turns = so_far.turns;
-      follows = so_far.follows;
-      committed = kept ∙ so_far.committed;
-      ends = (
-        reply,
-        read,
-        said,
-        posted ∙ ap (λ posts. posts ++ post_of mid reply ∷ []) so_far.posted,
-        reached ∙ so_far.reached,
-        so_far.count,
-        so_far.sum,
-      );
-    })
-
--- there was an error after those steps
-pub walk_stops : (client mid after : Installed) (old between new : List Post)
-    (asked opening opened : List (List ℕ)) (before middle commits : List Commit) (steps bytes : ℕ) (received : List ℕ) (ended : Type 0)
-    (error : ReadError Fault)
-    → SoFar client mid old between asked opening before middle steps bytes
-    → Turned mid after steps between new opening opened middle commits received ended (Err error)
-    → Walks client after old new asked opened before commits received ended (Err error)
-walk_stops client mid after old between new asked opening opened before middle commits steps bytes received ended error so_far (same, kept, why) =
-    let result : Result Walk (ReadError Fault) = Err error in
-    let P : Installed → Type 0 = λ m. Walks client m old new asked opened before commits received ended result in
-    let Q : ℕ → Type 0 = λ n. Stops mid n between new opening opened received ended error in
-    let R : List Post → Type 0 = λ posts. Stops mid (length so_far.turns) posts new opening opened received ended error in
-    let S : List (List ℕ) → Type 0 =
-    λ addresses. Stops mid (length so_far.turns) (old ++ posts_of client so_far.turns) new addresses opened received ended error in
-    subst P (sym same) (record {
-      turns = so_far.turns;
-      follows = so_far.follows;
-      committed = kept ∙ so_far.committed;
-      ends = subst S so_far.reached (subst R so_far.posted (subst Q so_far.count why));
-    })
 
 same_bytes : (text : List ℕ) → bytes_eq text text ≡ true
 same_bytes [] = refl
