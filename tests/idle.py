@@ -33,7 +33,6 @@ import os
 import pathlib
 import re
 import resource
-import selectors
 import socket
 import struct
 import subprocess

@@ -7,9 +7,8 @@ import re
 import socket
 import struct
 import time
-import tomllib
 
-from fuzzing import certificate_model, corpus, http_model, json_model, mutations, raise_model, reply_model, server, toml_model, walk_model
+from fuzzing import certificate_model, corpus, http_model, json_model, mutations, raise_model, reply_model, server, toml_model
 from fuzzing.server import Wrong
 
 DESK, OPERATE = b"/service/update2/json", b"/operate"

@@ -138,9 +138,6 @@ class Served:
         self.edits -= 1
         return Connection(self.operator)
 
-    def is_alive(self):
-        return self.process.poll() is None
-
     def kill(self):
         self.process.kill()
         self.process.communicate()
