@@ -2,8 +2,13 @@
 """Proves and builds the program: packaging/build.py [--jobs N | --gate]
 
 `make install` runs it. It copies the crates that the program is made of, without their mutants, to a new folder, and
-runs `rt ci` there, which proves several crates side by side, those first that most others wait for. `--jobs` is how many
-processors it uses, else all. The program is then `crates/omaha/out/omaha`, as after `make test`.
+runs `rt ci` there, which proves several crates side by side, those first that most others wait for. The program is then
+`crates/omaha/out/omaha`, as after `make test`.
+
+By itself `rt ci` proves no more crates at once than it expects memory for, which is less than half of what they take. So
+the crates before the last ones are proved first, one for each processor, if the toolchain keeps what it has proved. The
+last ones, of which each waits for the one before, then have several processors each. `--jobs` is how many processors are
+used, by one job for each crate, in one run.
 
 With --gate it runs the gate, `rt ci` at the top, as `make test` does. What a run has proved and built is noted beside the
 program: by which toolchain, from which files. If all of these are as noted, a later `make install` proves nothing.
@@ -13,6 +18,7 @@ import argparse
 import hashlib
 import os
 import pathlib
+import re
 import shutil
 import subprocess
 import sys
@@ -24,6 +30,10 @@ BUILT = TOP / "crates" / PROGRAM / "out" / PROGRAM
 NOTE = BUILT.with_name("made-of")
 # what no program is made of
 APART = shutil.ignore_patterns("out", "must-fail")
+# the crates that come last, one after the other
+LAST = ("omaha_server", "omaha_cli", PROGRAM)
+# more than any proof of a crate took, in kB
+ROOM = 4_000_000
 
 
 def lines_of(crates):
@@ -86,17 +96,43 @@ def gate():
     return status
 
 
+def lanes():
+    """How many crates may be proved at once: one for each processor, if there is memory."""
+    meminfo = pathlib.Path("/proc/meminfo").read_text(encoding="utf-8")
+    available = int(re.search(r"MemAvailable: *([0-9]+) kB", meminfo)[1])
+    return min(len(os.sched_getaffinity(0)), available // ROOM)
+
+
+def keeps():
+    """Whether the toolchain's `rt ci` keeps what it has proved for its next run."""
+    helped = subprocess.run(["rt", "help"], stdout=subprocess.PIPE, stderr=subprocess.STDOUT, text=True, check=False)
+    return "--anew" in helped.stdout
+
+
+def prove(room, jobs, names=()):
+    """Runs `rt ci` in a folder, with one job for each of so many crates at once, or as it chooses; its status."""
+    environment = {**os.environ, "RT_JOBS": str(jobs)} if jobs else os.environ
+    return subprocess.run(["rt", "ci", *names], cwd=room, env=environment, check=False).returncode
+
+
+def prove_all(room, jobs):
+    """Proves and builds the program in a folder; the status of the run that failed, else 0."""
+    if jobs or lanes() < 2 or not keeps():
+        return prove(room, jobs)
+    known = lines_of((room / "crates.txt").read_text(encoding="utf-8"))
+    return prove(room, lanes(), [it for it in known if it not in LAST]) or prove(room, None)
+
+
 def build(jobs):
     """Proves and builds the program in a folder of its own, unless that was done."""
     made_of = sources()
     if is_built(made_of):
         print(f"{BUILT.relative_to(TOP)} is proved and built of just these files")
         return 0
-    environment = {**os.environ, "RT_JOBS": str(jobs)} if jobs else os.environ
     with tempfile.TemporaryDirectory(prefix="omaha-build-") as folder:
         room = pathlib.Path(folder)
         copy(room)
-        status = subprocess.run(["rt", "ci"], cwd=room, env=environment, check=False).returncode
+        status = prove_all(room, jobs)
         if status == 0:
             BUILT.parent.mkdir(exist_ok=True)
             shutil.copy(room / BUILT.relative_to(TOP), BUILT)
