@@ -5,10 +5,10 @@
 runs `rt ci` there, which proves several crates side by side, those first that most others wait for. The program is then
 `crates/omaha/out/omaha`, as after `make test`.
 
-By itself `rt ci` proves no more crates at once than it expects memory for, which is less than half of what they take. So
-the crates before the last ones are proved first, one for each processor, if the toolchain keeps what it has proved. The
-last ones, of which each waits for the one before, then have several processors each. `--jobs` is how many processors are
-used, by one job for each crate, in one run.
+By itself `rt ci` proves no more crates at once than it expects memory for, which is twice what they take, and then one
+crate waits for another. So if the toolchain keeps what it has proved, two runs begin: one proves what all others wait
+for, by several processors for each crate, and the other one a crate for each processor, with what the first one leaves.
+A third one does what is left. `--jobs N` is one run with a crate for each of N processors.
 
 With --gate it runs the gate, `rt ci` at the top, as `make test` does. What a run has proved and built is noted beside the
 program: by which toolchain, from which files. If all of these are as noted, a later `make install` proves nothing.
@@ -30,8 +30,8 @@ BUILT = TOP / "crates" / PROGRAM / "out" / PROGRAM
 NOTE = BUILT.with_name("made-of")
 # what no program is made of
 APART = shutil.ignore_patterns("out", "must-fail")
-# the crates that come last, one after the other
-LAST = ("omaha_server", "omaha_cli", PROGRAM)
+# the crate on which most others wait, and the crates that wait for all others
+FIRST, LAST = "price_cert", ("omaha_cli", PROGRAM)
 # more than any proof of a crate took, in kB
 ROOM = 4_000_000
 
@@ -109,18 +109,22 @@ def keeps():
     return "--anew" in helped.stdout
 
 
-def prove(room, jobs, names=()):
-    """Runs `rt ci` in a folder, with one job for each of so many crates at once, or as it chooses; its status."""
+def start(room, jobs, names=(), before=()):
+    """Starts `rt ci` in a folder, with one job for each of so many crates at once, or as it chooses."""
     environment = {**os.environ, "RT_JOBS": str(jobs)} if jobs else os.environ
-    return subprocess.run(["rt", "ci", *names], cwd=room, env=environment, check=False).returncode
+    return subprocess.Popen([*before, "rt", "ci", *names], cwd=room, env=environment, stdin=subprocess.DEVNULL)
 
 
-def prove_all(room, jobs):
+def prove(room, jobs):
     """Proves and builds the program in a folder; the status of the run that failed, else 0."""
     if jobs or lanes() < 2 or not keeps():
-        return prove(room, jobs)
-    known = lines_of((room / "crates.txt").read_text(encoding="utf-8"))
-    return prove(room, lanes(), [it for it in known if it not in LAST]) or prove(room, None)
+        return start(room, jobs).wait()
+    names = lines_of((room / "crates.txt").read_text(encoding="utf-8"))
+    with start(room, None, [FIRST]) as first:
+        with start(room, lanes(), [it for it in names if it not in LAST], ["nice"]) as others:
+            if first.wait():
+                others.terminate()
+    return first.returncode or others.returncode or start(room, None).wait()
 
 
 def build(jobs):
@@ -132,7 +136,7 @@ def build(jobs):
     with tempfile.TemporaryDirectory(prefix="omaha-build-") as folder:
         room = pathlib.Path(folder)
         copy(room)
-        status = prove_all(room, jobs)
+        status = prove(room, jobs)
         if status == 0:
             BUILT.parent.mkdir(exist_ok=True)
             shutil.copy(room / BUILT.relative_to(TOP), BUILT)

@@ -17,16 +17,21 @@ abbrev pub history_app : App
 history_app =
     with_rule (with_rule (new_app (codes "history")) (option_named (codes "edition"))) (wanted_list (codes "F"))
 
--- what a word asks for
+-- what is asked for, unless an edition is named
+abbrev pub without_edition : Option ℕ → HistoryAction → Option HistoryAction
+without_edition None asked = Some asked
+without_edition (Some edition) asked = None
+
+-- what a word asks for: an edition is that of an export
 abbrev pub action_named : List ℕ → Option ℕ → Option HistoryAction
 action_named word edition =
     if bytes_eq word (codes "export") then Some (action.Export edition)
-    else (if bytes_eq word (codes "compact") then Some action.Compact else None)
+    else (if bytes_eq word (codes "compact") then without_edition edition action.Compact else None)
 
 -- what some words ask for: one is the path alone, and of two the first one says what to do
 abbrev pub action_in : List (List ℕ) → Option ℕ → Option HistoryAction
 action_in words edition =
-    if length words == 1 then Some action.List
+    if length words == 1 then without_edition edition action.List
     else (if length words == 2 then action_named (slice_index_or words 0 []) edition else None)
 
 -- the last of some words, or nothing

@@ -2,7 +2,7 @@
 
 ghost use Rattle.std.specs.Prelude.{◌≡◌, [], ◌∷◌, IfOk};
 ghost use Rattle.clap.specs.Words.{FailsBy, HasKind, found_of, rows_of};
-ghost use Rattle.omaha_arguments.specs.HistoryArguments.{action_in, action_named, asked_by, asked_in, edition_in, faults_by, faults_of_history, history_app, last_of, path_fault};
+ghost use Rattle.omaha_arguments.specs.HistoryArguments.{action_in, action_named, asked_by, asked_in, edition_in, faults_by, faults_of_history, history_app, last_of, path_fault, without_edition};
 ghost use Rattle.omaha_arguments.specs.Options.{IsMade};
 ghost use Rattle.omaha_arguments.specs.WalkArguments.{IsAskable};
 
@@ -52,7 +52,17 @@ pub(crate) fn history_command<'a>(alloc: Global) -> Making<'a>
     with_entries(alloc, command, &entries)
 }
 
-// What a word asks for.
+// What is asked for, unless an edition is named.
+fn without_edition(edition: Option<u64>, action: HistoryAction) -> Option<HistoryAction>
+    ensures { result ≡ without_edition edition action }
+{
+    match edition {
+        None => Some(action),
+        Some(_) => None,
+    }
+}
+
+// What a word asks for; an edition is that of an export.
 fn action_named(word: &str, edition: Option<u64>) -> Option<HistoryAction>
     ensures { result ≡ action_named word.now edition }
 {
@@ -60,7 +70,7 @@ fn action_named(word: &str, edition: Option<u64>) -> Option<HistoryAction>
         return Some(HistoryAction::Export(edition));
     }
     if word == "compact" {
-        return Some(HistoryAction::Compact);
+        return without_edition(edition, HistoryAction::Compact);
     }
     None
 }
@@ -70,7 +80,7 @@ fn action_in(words: &[Text], edition: Option<u64>) -> Option<HistoryAction>
     ensures { result ≡ action_in words.now edition }
 {
     if words.len() == 1 {
-        return Some(HistoryAction::List);
+        return without_edition(edition, HistoryAction::List);
     }
     if words.len() == 2 {
         return action_named(words[0].as_str(), edition);
@@ -104,7 +114,7 @@ fn invalid_words(alloc: Global) -> Error
         history_command(alloc),
         "omaha history",
         ErrorKind::ValueValidation,
-        "name a history, after `export` or `compact` if that is wanted, and a number of an edition",
+        "name a history, after `export` or `compact` if that is wanted; `--edition N` goes with `export` alone",
     )
 }
 

@@ -25,8 +25,6 @@ GivesOrLine : {A : Type 0} → (A → Type 0) → Result A BadEntry → Type 0
 GivesOrLine Has (Ok value) = Has value
 GivesOrLine Has (Err bad) = IsOneLine bad.path
 
-unfolding HasLine
-
 pub HasLine-ok : {A : Type 0} (value : A) → HasLine {A = A} (Ok value)
 unfolding HasLine
 HasLine-ok value = tt
