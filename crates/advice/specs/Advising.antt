@@ -12,9 +12,8 @@ use Rattle.omaha_commands.specs.declared.failure.Failure.TheVariants as failure
 use Rattle.advice.specs.Documents.{edits_in, max_file}
 use Rattle.advice.specs.Looks.{IsAddressAdvice, IsLook, Sights}
 use Rattle.advice.specs.Replies.{IsPathSaid, IsReplySaid, explained}
-use Rattle.advice.specs.Sources.{aim_of, profile_path, script_path}
+use Rattle.advice.specs.Sources.{aim_of, file_aim, profile_path, script_path}
 use Rattle.advice.specs.declared.documents.Notice.TheVariants as notice
-use Rattle.advice.specs.declared.looks.Aim.TheVariants as aim
 use Rattle.advice.specs.declared.tables.Kind.TheVariants as kind
 
 -- the profile at a path has that rejected edit
@@ -33,6 +32,11 @@ IsEditAdvice files command refused said =
     ⊎ ((script_path command ≡ None ⊎ IsRefused files (profile_path command) refused)
     × IsPathSaid files (profile_path command) kind.Profile (notice.Edit refused) said)
 
+-- rule: Advice on a file
+-- what a second look finds at a path, by what the command does there
+abbrev pub IsFileAdvice : Sights → Command → List ℕ → List ℕ → Type 0
+IsFileAdvice sights command path said = IsLook sights (file_aim command path) path (codes "file") said
+
 -- what is said of a failure by the files at hand or a second look
 abbrev pub IsFound : (List ℕ → Known) → Sights → Command → Failure → List ℕ → Type 0
 IsFound files sights command (failure.Profile fault) said =
@@ -43,7 +47,7 @@ IsFound files sights command (failure.Edit refused) said = IsEditAdvice files co
 IsFound files sights command (failure.Stale number) said =
     IsPathSaid files (script_path command) kind.Script (notice.Stale number) said
 IsFound files sights command (failure.Net address) said = IsAddressAdvice sights (aim_of command) address said
-IsFound files sights command (failure.File path) said = IsLook sights aim.Read path (codes "file") said
+IsFound files sights command (failure.File path) said = IsFileAdvice sights command path said
 IsFound files sights command (failure.Declined reply) said =
     IsReplySaid files command reply.status reply.body.items said
 IsFound files sights command (failure.Code code) said = said ≡ codes "omaha explain lists all codes"

@@ -1,9 +1,10 @@
 -- Which files and addresses a command names; this project's profile.
-use Rattle.std.specs.Prelude.{ℕ, List, [], codes, if◌then◌else◌, bytes_eq, Option, Some, None}
+use Rattle.std.specs.Prelude.{ℕ, Bool, false, List, [], codes, if◌then◌else◌, bytes_eq, Option, Some, None}
 use Rattle.omaha_arguments.specs.declared.command.Command.{Command}
 use Rattle.omaha_arguments.specs.declared.command.Command.TheVariants as command
 use Rattle.omaha_arguments.specs.declared.command.Question.{Question}
 use Rattle.omaha_arguments.specs.declared.command.Question.TheVariants as question
+use Rattle.omaha_arguments.specs.declared.command.Serve.{Serve}
 use Rattle.omaha_arguments.specs.declared.command.Source.{Source}
 use Rattle.omaha_arguments.specs.declared.command.Source.TheVariants as source
 use Rattle.advice.specs.declared.looks.Aim.{Aim}
@@ -40,8 +41,14 @@ script_path (command.Review asked) = asked.script
 script_path (command.Publish asked) = unless_input asked.script
 script_path other = None
 
+-- the server of a source
+abbrev pub server_in : Source → List ℕ
+server_in (source.Profile path) = []
+server_in (source.Server to) = to
+
 -- the address of a command's server
 abbrev pub server_of : Command → List ℕ
+server_of (command.Review asked) = server_in asked.source
 server_of (command.Publish asked) = asked.to
 server_of (command.Raise asked) = asked.to
 server_of (command.Dump asked) = asked.to
@@ -53,3 +60,20 @@ server_of other = []
 abbrev pub aim_of : Command → Aim
 aim_of (command.Serve asked) = aim.Bind
 aim_of other = aim.Connect
+
+-- the path is the one that is named
+abbrev pub is_named : List ℕ → Option (List ℕ) → Bool
+is_named path None = false
+is_named path (Some named) = bytes_eq path named
+
+-- what a server does at a path: it finds the folder of packages, adds lines to the log, and reads the profile
+abbrev pub serve_aim : Serve → List ℕ → Aim
+serve_aim asked path =
+    if bytes_eq path asked.packages then aim.Enter
+    else if is_named path asked.log then aim.Append
+    else aim.Read
+
+-- what a command does at a path
+abbrev pub file_aim : Command → List ℕ → Aim
+file_aim (command.Serve asked) path = serve_aim asked path
+file_aim other path = aim.Read

@@ -1,7 +1,7 @@
 //! Advice on failures.
 
 ghost use Rattle.std.specs.Prelude.{◌≡◌, [], Err, IfOk, IfSome, List, None, Ok, option_map, string_bytes, true, ℕ};
-ghost use Rattle.advice.specs.Advising.{IsAdvice, IsEditAdvice, IsFound, IsRefused};
+ghost use Rattle.advice.specs.Advising.{IsAdvice, IsEditAdvice, IsFileAdvice, IsFound, IsRefused};
 ghost use Rattle.advice.specs.Documents.{edits_in, notice_of};
 ghost use Rattle.advice.specs.Replies.{IsPathSaid, explained};
 ghost use Rattle.advice.specs.Sources.{profile_path, script_path};
@@ -12,9 +12,9 @@ ghost use Rattle.omaha_commands.specs.Failures.{failure_string};
 ghost use Rattle.streams.specs.Reading.{IsWhole};
 
 use crate::documents::{MAX_FILE, Trouble};
-use crate::looks::{Aim, Looks, address_advice, look_again};
+use crate::looks::{Looks, address_advice, look_again};
 use crate::replied::{explained, path_said, reply_advice};
-use crate::sources::{aim_of, profile_path, script_path};
+use crate::sources::{aim_of, file_aim, profile_path, script_path};
 use crate::tables::Kind;
 use catalogue::{Batch, Catalogue, Refused};
 use omaha_arguments::Command;
@@ -99,6 +99,14 @@ fn script_said<R: Disk>(
     path_said(rt, alloc, script_path(command), Kind::Script, trouble)
 }
 
+// rule: Advice on a file
+// What a second look finds at a path, by what the command does there.
+fn file_advice<R: Looks>(rt: &R, alloc: Global, command: &Command, path: &str) -> Option<String>
+    ensures { IfSome result (λ said. IsFileAdvice (R.sights rt.now) command.now path.now (string_bytes said)) }
+{
+    look_again(rt, alloc, file_aim(command, path), path, "file")
+}
+
 // A copy of a string.
 fn fixed(alloc: Global, text: &str) -> Option<String>
     ensures { IfSome result (λ copy. string_bytes copy ≡ text.now) }
@@ -121,7 +129,7 @@ fn find<R: Disk + Looks + AllocGlobal>(
         Failure::Edit(refused) => edit_advice(rt, alloc, command, *refused),
         Failure::Stale(number) => script_said(rt, alloc, command, Trouble::Stale(*number)),
         Failure::Net(address) => { address_advice(rt, alloc, aim_of(command), address.as_str()) }
-        Failure::File(path) => look_again(rt, alloc, Aim::Read, path.as_str(), "file"),
+        Failure::File(path) => file_advice(rt, alloc, command, path.as_str()),
         Failure::Declined(reply) => {
             reply_advice(rt, alloc, command, reply.status, reply.body.as_slice())
         }

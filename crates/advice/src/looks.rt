@@ -7,6 +7,7 @@ ghost use Rattle.advice.specs.declared.looks.Aim.TheVariants as aim;
 
 use crate::addresses::address_fault;
 use std::alloc::{AllocError, Global};
+use std::fs::OpenOptions;
 use std::io::ErrorKind;
 use std::net::{Net, TcpListener, TcpStream, ToSocketAddrs};
 use std::os::unix::net::UnixStream;
@@ -24,6 +25,10 @@ pub enum Aim {
     Bind,
     /// To read a file.
     Read,
+    /// To add lines to a file.
+    Append,
+    /// To find a folder.
+    Enter,
 }
 
 /// What a second look finds.
@@ -47,6 +52,8 @@ pub enum Seen {
     TimedOut,
     /// The path is a folder's.
     Folder,
+    /// The path is no folder's.
+    NoFolder,
     /// The path is neither a folder's nor a regular file's.
     Special,
     /// The name is too long.
@@ -59,6 +66,10 @@ pub enum Seen {
     Free,
     /// The file can be opened.
     Readable,
+    /// The file can be opened, and lines be added to it.
+    Writable,
+    /// There is no such file, and none was made.
+    Unmade,
     /// Something else is wrong.
     Other,
 }
@@ -78,6 +89,7 @@ impl Seen {
             Seen::NoHost => "no such host is known",
             Seen::TimedOut => "no reply came in time",
             Seen::Folder => "it is a folder",
+            Seen::NoFolder => "it is no folder",
             Seen::Special => "it is no regular file",
             Seen::LongName => "its name is too long",
             Seen::Large => "it has more than 268435456 bytes",
@@ -85,6 +97,8 @@ impl Seen {
                 "somebody listens there: is it the operator's listener of an omaha server?",
             Seen::Free => "the address is free now: try again",
             Seen::Readable => "it is a file that can be read; a script has at most 262144 bytes",
+            Seen::Writable => "it can be written now: try again",
+            Seen::Unmade => "there is no such file, and none can be made there: look at its folder",
             Seen::Other => "it can't be used",
         }
     }
@@ -107,7 +121,7 @@ pub trait Looks {
     ghost sights: { Self → Sights };
 
     /// Tries once more what failed, at an address, `HOST:PORT` or `unix:PATH`, or a path, and says what it finds. A
-    /// connection gets two seconds, and is closed at once; nothing is written.
+    /// connection gets two seconds, and is closed at once; nothing is written, and no file is made.
     fn look(&self, aim: Aim, at: &str) -> Seen
         ensures { sights self.now aim at.now result };
 }
@@ -205,6 +219,36 @@ fn read<R: Files>(rt: &R, path: &str) -> Seen {
     }
 }
 
+// Opens a regular file for lines at its end.
+fn open_end<R: Files>(rt: &R, path: &str) -> Seen {
+    let mut options = OpenOptions::new();
+    options.append(true);
+    match options.open(rt, path) {
+        Ok(_) => Seen::Writable,
+        Err(error) => seen_of(error.kind()),
+    }
+}
+
+fn append<R: Files>(rt: &R, path: &str) -> Seen {
+    match rt.metadata(path) {
+        Ok(found) if found.is_dir() => Seen::Folder,
+        Ok(found) if found.is_file() => open_end(rt, path),
+        Ok(_) => Seen::Special,
+        Err(error) => match seen_of(error.kind()) {
+            Seen::Missing => Seen::Unmade,
+            seen => seen,
+        },
+    }
+}
+
+fn enter<R: Files>(rt: &R, path: &str) -> Seen {
+    match rt.metadata(path) {
+        Ok(found) if found.is_dir() => Seen::Folder,
+        Ok(_) => Seen::NoFolder,
+        Err(error) => seen_of(error.kind()),
+    }
+}
+
 impl<R: Net<Listener = TcpListener, Stream = TcpStream> + Files> Looks for R {
     ghost use Rattle.std.specs.Prelude.{⊤};
 
@@ -215,6 +259,8 @@ impl<R: Net<Listener = TcpListener, Stream = TcpStream> + Files> Looks for R {
             Aim::Connect => connect(self, at),
             Aim::Bind => bind(self, at),
             Aim::Read => read(self, at),
+            Aim::Append => append(self, at),
+            Aim::Enter => enter(self, at),
         }
     }
 }

@@ -1,10 +1,10 @@
 //! The files and addresses that commands name.
 
 ghost use Rattle.std.specs.Prelude.{◌≡◌, option_map};
-ghost use Rattle.advice.specs.Sources.{aim_of, profile_in, profile_path, script_in, script_path, server_of, unless_input};
+ghost use Rattle.advice.specs.Sources.{aim_of, file_aim, is_named, profile_in, profile_path, script_in, script_path, serve_aim, server_in, server_of, unless_input};
 
 use crate::looks::Aim;
-use omaha_arguments::{Command, Question, Source};
+use omaha_arguments::{Command, Question, Serve, Source};
 use values::Text;
 
 // The string that may be missing.
@@ -69,11 +69,21 @@ pub(crate) fn script_path(command: &Command) -> Option<&str>
     }
 }
 
+fn server_in(source: &Source) -> &str
+    ensures { result.now ≡ server_in source.now }
+{
+    match source {
+        Source::Profile(_) => "",
+        Source::Server(to) => to.as_str(),
+    }
+}
+
 /// The address of a command's server, or nothing.
 pub(crate) fn server_of(command: &Command) -> &str
     ensures { result.now ≡ server_of command.now }
 {
     match command {
+        Command::Review(asked) => server_in(&asked.source),
         Command::Publish(asked) => asked.to.as_str(),
         Command::Raise(asked) => asked.to.as_str(),
         Command::Dump(asked) => asked.to.as_str(),
@@ -90,5 +100,38 @@ pub(crate) fn aim_of(command: &Command) -> Aim
     match command {
         Command::Serve(_) => Aim::Bind,
         _ => Aim::Connect,
+    }
+}
+
+// Whether a path is the one that is named, if one is.
+fn is_named(path: &str, named: &Option<Text>) -> bool
+    ensures { result ≡ is_named path.now named.now }
+{
+    match named {
+        Some(named) => path == named.as_str(),
+        None => false,
+    }
+}
+
+// What a server does at a path.
+fn serve_aim(asked: &Serve, path: &str) -> Aim
+    ensures { result ≡ serve_aim asked.now path.now }
+{
+    if path == asked.packages.as_str() {
+        Aim::Enter
+    } else if is_named(path, &asked.log) {
+        Aim::Append
+    } else {
+        Aim::Read
+    }
+}
+
+/// What a command does at a path.
+pub(crate) fn file_aim(command: &Command, path: &str) -> Aim
+    ensures { result ≡ file_aim command.now path.now }
+{
+    match command {
+        Command::Serve(asked) => serve_aim(asked, path),
+        _ => Aim::Read,
     }
 }

@@ -1,5 +1,5 @@
 -- What the arguments of the command line ask for, as `clap` reads them; this project's profile.
-use Rattle.std.specs.Prelude.{ℕ, Bool, true, false, List, [], ◌∷◌, codes, if◌then◌else◌, Option, None, unwrap_or}
+use Rattle.std.specs.Prelude.{ℕ, true, false, List, [], ◌∷◌, codes, if◌then◌else◌, Option, None, unwrap_or}
 use Rattle.std.specs.Option.{option_map_or}
 use Rattle.std.specs.Str.{bytes_eq}
 use Rattle.clap.specs.Kinds.{or_else}
@@ -179,13 +179,6 @@ plain_invocation = record { command = command.Once plain_once; verbose = false }
 abbrev pub invocation_of : List Text → Invocation
 invocation_of words =
     option_map_or (λ named. invocation_in named.0 named.1) (subcommand_of omaha_app words) plain_invocation
-
--- what they ask to do, and whether `--verbose` is given
-abbrev pub command_of : List Text → Command
-command_of words = (invocation_of words).command
-
-abbrev pub verbose_of : List Text → Bool
-verbose_of words = (invocation_of words).verbose
 
 -- what is wrong with the arguments, or the help or version that they ask for: what `clap` finds, else
 -- what is wrong with the options

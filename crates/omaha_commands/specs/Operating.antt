@@ -6,7 +6,7 @@ use Rattle.streams.specs.Streams.{Known}
 use Rattle.streams.specs.Writing.{Breaks}
 use Rattle.update_client.specs.declared.posting.Reply.{Reply}
 use Rattle.omaha_arguments.specs.declared.command.Raise.{Raise}
-use Rattle.omaha_commands.specs.Profiles.{Files, IsUnreadable, max_profile}
+use Rattle.omaha_commands.specs.Profiles.{Files, IsUnread, max_profile}
 use Rattle.omaha_commands.specs.ShownReplies.{printed_reply}
 use Rattle.omaha_commands.specs.Streams.{Streams}
 use Rattle.omaha_commands.specs.declared.failure.Failure.{Failure}
@@ -19,8 +19,7 @@ Listeners = List ℕ → List ℕ → Reply → Type 0
 -- a file's bytes; or it can't be read; or memory ran out
 abbrev pub IsRead : Files → List ℕ → Result (List ℕ) Failure → Type 0
 IsRead files path (Ok bytes) = IsWhole (files path) max_profile bytes
-IsRead files path (Err refusal) =
-    ((refusal ≡ failure.File path) × IsUnreadable (files path)) ⊎ (refusal ≡ failure.Memory)
+IsRead files path (Err refusal) = IsUnread files path refusal
 
 -- the path means the standard input
 abbrev pub is_input : List ℕ → Bool

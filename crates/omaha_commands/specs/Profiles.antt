@@ -49,6 +49,11 @@ IsOfFile file made = (bytes : List ℕ) × IsWhole file max_profile bytes × (se
 abbrev pub IsUnreadable : Known → Type 0
 IsUnreadable file = (file.failed ≡ true) ⊎ IsLonger file max_profile
 
+-- why a file isn't read: it can't be, or has too many bytes; or memory ran out
+abbrev pub IsUnread : Files → List ℕ → Failure → Type 0
+IsUnread files path refusal =
+    ((refusal ≡ failure.File path) × IsUnreadable (files path)) ⊎ (refusal ≡ failure.Memory)
+
 -- what requests are replied to from: the built-in catalogue without a path, else that of the file; or
 -- why there is nothing to reply from
 abbrev pub IsServed : Files → Option (List ℕ) → Result Service Failure → Type 0

@@ -19,8 +19,9 @@ use values::{ReadError, Text};
 /// Those of the profile come before those of the request.
 #[derive(Debug)]
 pub enum Failure {
-    /// The profile's file, of that path, could not be read, or has over 256 MiB; or the log's, of that path, could
-    /// not be opened; or there is no folder of packages of that path. The path prints without control characters.
+    /// The file of a profile, a certificate or a script, of that path, could not be read, or has over 256 MiB, or as
+    /// the script of a check or a review over 262144 bytes; or the log's, of that path, could not be opened; or there
+    /// is no folder of packages of that path. The path prints without control characters.
     File(Text),
     /// The file at that path can't be described, for that reason. The path prints without control characters.
     Undescribed(Text, DescribeError),
@@ -30,11 +31,11 @@ pub enum Failure {
     Package(Text, Lack),
     /// The profile is invalid.
     Profile(ProfileFault),
-    /// An edit of the profile was rejected.
+    /// An edit of the profile was rejected, or one of the script of a check or a review.
     Edit(Refused),
-    /// The script of a review is invalid.
+    /// The script is invalid: that of a check or a review, one whose packages are compared, or one that is typed.
     Script(ProfileFault),
-    /// The script of a review is written for another edition than this.
+    /// The script of a check or a review is written for another edition than this.
     Stale(u64),
     /// There is no room for the edition of a script.
     HistoryFull,
@@ -42,7 +43,7 @@ pub enum Failure {
     Stuck(u128),
     /// The input could not be read to its end.
     Read,
-    /// The input has over 262144 bytes; it prints as `Read` does.
+    /// The input has over 262144 bytes, or as a script to publish over 256 MiB; it prints as `Read` does.
     TooLong,
     /// The request is invalid.
     Request(RequestFault),
@@ -50,7 +51,8 @@ pub enum Failure {
     Certificate(CertificateFault),
     /// The program prints no such code. The code prints without control characters.
     Code(Text),
-    /// The address could not be bound, or the listener at it not be reached. It prints without control characters.
+    /// The address could not be bound; or the listener at it could not be reached, sent no whole reply, or didn't name
+    /// its edition. The address prints without control characters.
     Net(Text),
     /// The history at that path can't be used, for that reason. The path prints without control characters.
     History(Text, HistoryFault),

@@ -1,7 +1,7 @@
 // The service of a profile's file.
 
-ghost use Rattle.std.specs.Prelude.{Err, IfErr, IfOk, Some};
-ghost use Rattle.omaha_commands.specs.Profiles.{IsMade, IsServed, max_profile, service_of_bytes};
+ghost use Rattle.std.specs.Prelude.{IfErr, IfOk, Some};
+ghost use Rattle.omaha_commands.specs.Profiles.{IsMade, IsServed, IsUnread, max_profile, service_of_bytes};
 ghost use Rattle.streams.specs.Reading.{IsWhole};
 
 use crate::failure::Failure;
@@ -37,10 +37,10 @@ pub fn read_service<R: Threads + Sync>(
 // rule: Maximum of a profile
 /// Reads a profile's file.
 ///
-/// The profile may have 256 MiB. Fails with the file if it can't be read or is longer.
+/// The profile may have 256 MiB. Fails with the file if it can't be read or is longer; what it says isn't looked at.
 pub fn read_named<R: Disk + AllocGlobal>(rt: &R, path: &Text) -> Result<Vec<u8>, Failure>
     ensures ok { IfOk result (λ bytes. IsWhole (R.file_at rt.now path.now) max_profile bytes.items) }
-    ensures err { IfErr result (λ failure. IsServed (R.file_at rt.now) (Some path.now) (Err failure)) }
+    ensures err { IfErr result (IsUnread (R.file_at rt.now) path.now) }
 {
     match rt.read_file(rt.alloc(), path.as_str(), MAX_PROFILE) {
         Ok(bytes) => Ok(bytes),

@@ -13,8 +13,8 @@ Remedy: None is needed; without --history keep an `omaha dump --to ADDR`, as a r
     (
         "stale",
         "stale N
-Found in: the reply to a script.
-Edition N is published, and the script's `base` is another one; nothing is changed.
+Found in: the reply to a script, and the output of `check --script`, `review --script` and `publish --check`.
+Edition N is published, and the script's `base` is another one; nothing is changed. A profile's edition is 1.
 Usual cause: Another script was published, this one was sent twice, or a server without --history was started again.
 Remedy: If `omaha dump --to ADDR` lacks the edits, set `base` to N, see `omaha review --to ADDR`, and send it again.
 ",
@@ -103,7 +103,7 @@ Remedy: If it isn't at its target: `omaha certify` lists the releases from which
     (
         "missing",
         "missing
-Found in: a package's line of `check --packages`, and a file of `describe`.
+Found in: a package's line of `check --packages`, `publish --packages`, `serve` and its reply; a file of `describe`.
 There is no file of that name in the folder.
 Usual cause: A package that was not copied, or a misspelled `name`.
 Remedy: Copy the package into the folder, or correct the profile.
@@ -112,7 +112,7 @@ Remedy: Copy the package into the folder, or correct the profile.
     (
         "not",
         "not a regular file
-Found in: a package's line of `check --packages`, and a file of `describe`.
+Found in: a package's line of `check --packages` and `publish --packages`, and a file of `describe`.
 What has the name is a folder, a pipe or a link.
 Usual cause: A link to a package that is kept elsewhere.
 Remedy: Copy the file itself.
@@ -121,8 +121,8 @@ Remedy: Copy the file itself.
     (
         "size",
         "size N
-Found in: a package's line of `check --packages`, and a file of `describe`.
-The file has N bytes, and not as many as the profile declares, or as a package may have.
+Found in: a package's line of `check --packages`, `publish --packages`, `serve` and its reply; a file of `describe`.
+The file has N bytes, and not as many as the profile or the script declares, or as a package may have.
 Usual cause: A copy that was cut, a package that was built anew, or an empty file.
 Remedy: Copy the package again, or write into the profile what `omaha describe FILE` prints.
 ",
@@ -130,7 +130,7 @@ Remedy: Copy the package again, or write into the profile what `omaha describe F
     (
         "sha256",
         "sha256 differs
-Found in: a package's line of `check --packages`.
+Found in: a package's line of `check --packages` and `publish --packages`.
 The file has the declared size and another SHA-256.
 Usual cause: A package that was built anew under its old name.
 Remedy: Copy the declared package; give a changed one a name of its own.
@@ -139,7 +139,7 @@ Remedy: Copy the declared package; give a changed one a name of its own.
     (
         "unreadable",
         "unreadable
-Found in: a package's line of `check --packages`, and a file of `describe`.
+Found in: a package's line of `check --packages` and `publish --packages`, and a file of `describe`.
 The file can't be opened, or reading it failed.
 Usual cause: A missing permission.
 Remedy: Try `head FILE` as the user that the server has.
@@ -148,10 +148,10 @@ Remedy: Try `head FILE` as the user that the server has.
     (
         "script",
         "script CODE
-Found in: the output of `review --script`.
-The script is invalid, as the code says; nothing is reviewed.
+Found in: the output of `script`, `check --script`, `review --script`, `publish --check` and `publish --packages`.
+The script is invalid, as the code says; nothing is printed or published.
 Usual cause: See the code: `omaha explain CODE`.
-Remedy: Correct the script, and review it again.
+Remedy: Correct the script, or the edits that were typed, and try again.
 ",
     ),
     (
@@ -166,7 +166,7 @@ Remedy: `omaha review F` prints each of them with its reason, and `omaha review 
     (
         "status",
         "status N at ADDR
-Found in: the second line of a failed `publish`, `raise`, `dump`, `status` or `stop`, with `--verbose` or at a terminal.
+Found in: the second line (--verbose, or a terminal) of `publish`, `raise`, `dump`, `status`, `stop` and `review --to`.
 Who listens at the address replied with the HTTP status N, and not as an operator's listener does to a script.
 Usual cause: The clients' address in place of the operator's (404), a script of over 262144 bytes (413), or a proxy.
 Remedy: Use the address that `serve --operator` was given, and no proxy before it.

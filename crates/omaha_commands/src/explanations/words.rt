@@ -4,28 +4,30 @@ pub(crate) const WORDS: [(&str, &str); 13] = [
     (
         "edit",
         "edit N: CODE
-Found in: a profile.
+Found in: a profile; of a script, the output of `check --script`, `review --script` and `publish --check`.
 The edit of that index, from 0, is rejected with that code.
 Usual cause: See the code: `omaha explain CODE`.
-Remedy: `omaha once --help` says in which order the edits of a profile count.
+Remedy: `omaha once --help` says in which order the edits of a profile count; those of a script count in its order.
 ",
     ),
     (
         "file",
         "file F
 Found in: a path of the command line.
-The file can't be read, is no regular file, or has more than 256 MiB; `omaha describe` says what is wrong with it. Of
-`--log F`: the file can't be opened for writing. Of `--packages F`: there is no such folder.
-Usual cause: A misspelled path, missing permission, a folder, or a pipe.
-Remedy: Try `head F`; of a log, `touch F`; of packages, `ls F`.
+The file can't be read, is no regular file, or has more than 256 MiB; `omaha describe` says what is wrong with it. Of a
+script of `check`, `review` or `publish --check`: it may also have more than 262144 bytes. Of `--log F`: the file can't
+be opened for writing. Of `--packages F`: there is no such folder.
+Usual cause: A misspelled path, missing permission, a folder, a pipe, or a script that is too long.
+Remedy: Try `head F`; of a log, `touch F`; of packages, `ls F`. Divide a script that is too long.
 ",
     ),
     (
         "net",
         "net ADDR
 Found in: an address of the command line.
-`serve` can't listen on the address, or may not open two more files, for a connection and a package. `publish`,
-`raise`, `dump`, `status` and `stop` can't reach an operator's listener there, or its reply isn't whole.
+`serve` can't listen on the address, or may not open two more files, for a connection and a package. `publish`, `raise`,
+`dump`, `status`, `stop`, `review --to` and `script --to` can't reach an operator's listener there, or its reply isn't
+whole, or doesn't name the edition that they ask for.
 Usual cause: No address and port, a port in use, or one below 1024 without the right to it; a server that is not running.
 Of unix:PATH, another file, or no right to the folder.
 Remedy: Try another port, or `ss -ltn` to see who has it, `ls -l PATH`; see that `ulimit -n` is above 8.
@@ -97,10 +99,10 @@ Remedy: Copy the package, or write into the profile what `omaha describe FILE` p
     (
         "read",
         "read
-Found in: standard input.
-Standard input failed, or has more than 262144 bytes.
-Usual cause: A closed terminal, or a file that is no request.
-Remedy: Give the request by `< FILE` or a pipe.
+Found in: standard input: the request of `once`, or the script of `publish -`.
+Standard input failed, or has more than 262144 bytes; of `publish -` without --check, more than 256 MiB.
+Usual cause: A closed terminal, or a file that is no request or script.
+Remedy: Give the request or the script by `< FILE` or a pipe.
 ",
     ),
     (
