@@ -5,8 +5,8 @@
 runs `rt ci` there, which proves several crates side by side, those first that most others wait for. The program is then
 `crates/omaha/out/omaha`, as after `make test`.
 
-By itself `rt ci` proves no more crates at once than it expects memory for, which is twice what they take, and then one
-crate waits for another. So if the toolchain keeps what it has proved, two runs begin: one proves what all others wait
+By itself `rt ci` proves no more crates at once than it expects memory for, which is two or three times what they take,
+and then one crate waits for another. So if the toolchain keeps what it has proved, two runs begin: one proves what all others wait
 for, by several processors for each crate, and the other one a crate for each processor, with what the first one leaves.
 A third one does what is left. `--jobs N` is one run with a crate for each of N processors.
 
@@ -32,7 +32,7 @@ NOTE = BUILT.with_name("made-of")
 APART = shutil.ignore_patterns("out", "must-fail")
 # the crate on which most others wait, and the crates that wait for all others
 FIRST, LAST = "price_cert", ("omaha_cli", PROGRAM)
-# more than any proof of a crate took, in kB
+# what the proof of a crate takes at most, but for the largest ones, in kB
 ROOM = 4_000_000
 
 
