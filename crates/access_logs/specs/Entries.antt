@@ -32,13 +32,13 @@ abbrev pub size_of : List ℕ → ℕ
 size_of reply = min (length reply) (2 ^ 64 - 1)
 
 -- by the first bytes of a reply that has so many: the status that its head says, and how many bytes follow the head;
--- or, of a reply that doesn't begin with a head of up to 64 fields, no bytes
+-- or, of a reply that doesn't begin with a whole head of up to 64 fields, no status and no bytes
 abbrev pub IsOutcome : List ℕ → ℕ → Entry → Type 0
 IsOutcome kept size entry =
     ((head : ResponseHead) × (rest : List ℕ) × ReadsResponse kept head rest × (entry.status ≡ Some (status_code head))
     × (entry.size ≡ size - length (print_response head)))
     ⊎ (((head : ResponseHead) (rest : List ℕ) → ReadsResponse kept head rest → 64 < length head.fields)
-    × (entry.size ≡ 0))
+    × (entry.status ≡ None) × (entry.size ≡ 0))
 
 -- a field's name and value: the name is this one, in any case
 abbrev pub is_named : List ℕ → List ℕ × List ℕ → Bool

@@ -1,5 +1,9 @@
 // Replies of which a part was written.
 
+ghost use Rattle.std.specs.Prelude.{[]};
+ghost use Rattle.access_logs.specs.Replies.{begun};
+ghost use Rattle.access_logs.specs.Sights.{IsSeenOf};
+
 use crate::seen::Seen;
 use std::alloc::Global;
 
@@ -23,7 +27,9 @@ pub struct LastReply {
 
 impl LastReply {
     /// No reply yet.
-    pub fn new(alloc: Global) -> LastReply {
+    pub fn new(alloc: Global) -> LastReply
+        ensures { IsSeenOf (begun []) result.seen }
+    {
         LastReply {
             seen: Seen::new(alloc, None),
         }

@@ -9,7 +9,7 @@ pub struct Entry<'a> {
     pub(crate) seconds: u64,
     /// The first line of the message.
     pub(crate) line: &'a [u8],
-    /// The status of the reply, if its head was written.
+    /// The status of the reply, if its head was written whole.
     pub(crate) status: Option<u16>,
     /// How many bytes of the reply's body were written.
     pub(crate) size: u64,

@@ -87,7 +87,7 @@ pub(crate) fn asker_of(bytes: &[u8]) -> Asker<'_>
 /// What the head of a reply says.
 #[derive(Clone, Copy, Drop)]
 pub(crate) struct Replied {
-    /// The status.
+    /// The status, if the head was written whole.
     pub(crate) status: Option<u16>,
     /// How many bytes the head has, if it was written whole.
     pub(crate) head: Option<u64>,
@@ -110,6 +110,7 @@ pub(crate) fn replied_in(bytes: &[u8]) -> Replied
     ensures head { IfSome result.head (λ count. (head : ResponseHead)
         × ReadsResponse bytes.now head (drop count bytes.now)
         × (count ≡ length (print_response head)) × (result.status ≡ Some (status_code head))) }
+    ensures cut { result.head ≡ None → result.status ≡ None }
     ensures none { result.head ≡ None → (head : ResponseHead) (rest : List ℕ) → ReadsResponse bytes.now head rest
         → 64 < length head.fields }
 {
@@ -120,7 +121,7 @@ pub(crate) fn replied_in(bytes: &[u8]) -> Replied
         _ => None,
     };
     Replied {
-        status: head.code,
+        status: head_size.and(head.code),
         head: head_size,
         size: size_in(head.headers),
     }

@@ -59,3 +59,12 @@ Reports is_live append.Taken = ⊥
 Reports is_live append.Full = IsTrue is_live
 Reports is_live (append.Failed cause) = IsTrue is_live ⊎ (cause ≡ Closed)
 Reports is_live (append.Unknown cause) = is_live ≡ false
+
+-- rule: Failed compaction
+-- a failed compaction says that all records are as before, if the history was closed or they don't fit; after any other
+-- failure they may be replaced, and the history is closed
+abbrev pub ReportsCompaction : Bool → Bool → AppendFault → Type 0
+ReportsCompaction was_live is_live append.Taken = ⊥
+ReportsCompaction was_live is_live append.Full = IsTrue is_live
+ReportsCompaction was_live is_live (append.Failed cause) = (was_live ≡ false) × (cause ≡ Closed)
+ReportsCompaction was_live is_live (append.Unknown cause) = is_live ≡ false

@@ -1,6 +1,6 @@
 // What calls make of a history.
 
-ghost use Rattle.std.specs.Prelude.{◌≡◌, ◌↔◌, ◌≤◌, ◌^◌, ◌++◌, ◌∷◌, [], Err, None, Ok, OnErr, OnOk, IfErr, IsTrue, false, length, true};
+ghost use Rattle.std.specs.Prelude.{◌≡◌, ◌↔◌, ◌<◌, ◌≤◌, ◌^◌, ◌++◌, ◌∷◌, [], Err, None, Ok, OnErr, OnOk, IfErr, IsTrue, false, length, true};
 ghost use Rattle.kept_records.specs.declared.fault.AppendFault.TheVariants.{Failed, Full};
 ghost use Rattle.kept_records.specs.declared.fault.Cause.TheVariants.{Closed};
 ghost use Rattle.kept_records.specs.declared.fault.ReadFault.TheVariants as read;
@@ -8,9 +8,9 @@ ghost use Rattle.kept_records.specs.declared.record.Kind.TheVariants.{Profile};
 ghost use Rattle.kept_records.specs.Keeping.{Appends, Compacts, HasRoom, Learns, Numbers, record_of};
 ghost use Rattle.sqlite.specs.Held.{state};
 ghost use Rattle.sqlite.specs.State.{HasCleanDisk};
-ghost use Rattle.history.specs.Changes.{IsNumbered, Makes};
+ghost use Rattle.history.specs.Changes.{HasNoRoom, IsNumbered, Makes, ReportsChange};
 ghost use Rattle.history.specs.Holdings.{LeavesEither};
-ghost use Rattle.history.specs.Logs.{IsClean, KeepsKnown, Reports};
+ghost use Rattle.history.specs.Logs.{IsClean, KeepsKnown, Reports, ReportsCompaction};
 
 use crate::causes::cause_of;
 use crate::history::History;
@@ -40,7 +40,9 @@ impl<S: Alter> History<S> {
         bytes: &[u8],
     ) -> Result<(), AppendFault>
         requires { IsNumbered change }
-        ensures { Makes change bytes.now result self.old.first self.old.kept self.new.first self.new.kept }
+        ensures makes { Makes change bytes.now result self.old.first self.old.kept self.new.first self.new.kept }
+        ensures full { (result ≡ Err Full) ↔ (IsTrue self.old.is_live × HasNoRoom change self.old.limit self.old.kept (length bytes.now)) }
+        ensures reports { IfErr result (ReportsChange change self.old.is_live self.new.is_live) }
     {
         match change {
             Change::Append(kind) => self.append(alloc, kind, bytes),
@@ -141,7 +143,11 @@ impl<S: Alter> Records for History<S> {
     }
 
     // rule: Compaction
-    /// Replaces all records by one in one transaction. After a failure but `Full` the history is closed.
+    // rule: Failed compaction
+    /// Replaces all records by one in one transaction.
+    ///
+    /// Fails with `Failed(Closed)` if the history is closed, and with `Full` if the one has more bytes than the limit: then
+    /// nothing changes. Any other failure is `Unknown`, and closes the history: all records are as before, or replaced.
     fn compact(&mut self, _alloc: Global, number: u64, bytes: &[u8]) -> Result<(), AppendFault>
         requires { (1 ≤ number) × (number ≤ 2 ^ 53) }
         ensures compacts { Compacts (record_of Profile bytes.now) result self.old.kept self.new.kept }
@@ -152,6 +158,8 @@ impl<S: Alter> Records for History<S> {
             self.old.first self.old.kept number (record_of Profile bytes.now ∷ []) }
 
         ensures live { OnOk result (IsTrue self.new.is_live) }
+        ensures full { (result ≡ Err Full) ↔ (IsTrue self.old.is_live × (self.old.limit < length bytes.now)) }
+        ensures reports { IfErr result (ReportsCompaction self.old.is_live self.new.is_live) }
         ensures shut { self.old.is_live ≡ false → (result ≡ Err (Failed Closed)) × (self.new ≡ self.old) }
     {
         if !self.is_live {

@@ -1,11 +1,14 @@
 // The history in a file.
 
-ghost use Rattle.std.specs.Prelude.{◌≡◌, IfOk};
+ghost use Rattle.std.specs.Prelude.{◌≡◌, ◌↔◌, ◌<◌, ◌≤◌, ◌^◌, Err, IfErr, IfOk, IsTrue, length};
+ghost use Rattle.kept_records.specs.declared.fault.AppendFault.TheVariants.{Full};
+ghost use Rattle.kept_records.specs.declared.record.Kind.TheVariants.{Profile};
+ghost use Rattle.kept_records.specs.Keeping.{Appends, Compacts, HasRoom, Numbers, record_of};
 ghost use Rattle.sqlite.specs.Files.{file_state};
 ghost use Rattle.sqlite.specs.State.{HasCleanDisk};
 ghost use Rattle.sqlite.specs.WalFiles.{image_at};
-ghost use Rattle.history.specs.Changes.{IsNumbered, Makes};
-ghost use Rattle.history.specs.Logs.{IsKnown};
+ghost use Rattle.history.specs.Changes.{HasNoRoom, IsNumbered, Makes, ReportsChange};
+ghost use Rattle.history.specs.Logs.{IsKnown, Reports, ReportsCompaction};
 ghost use Rattle.history.specs.Openings.{IsOpenedAt};
 
 use crate::appending::Change;
@@ -40,8 +43,9 @@ pub fn open_at<S: Start>(
 
 /// A history in a file of the system.
 ///
-/// Contracts see the records that it is known to hold and the number of the first one, and nothing of the database. So
-/// whoever names this type proves nothing again of the types below it.
+/// Contracts see the records that it is known to hold, the number of the first one, how many bytes all may have and whether
+/// calls still reach the disk, and nothing of the database. So whoever names this type proves nothing again of the types
+/// below it.
 pub struct FileHistory {
     history: History<FileStore<FileFrom<Wary>>>,
 }
@@ -60,7 +64,7 @@ impl Model for FileHistory {
 
     ghost coded = { file_log_code };
 
-    ghost view = { λ h. record { first = h.history.first; kept = h.history.kept } };
+    ghost view = { λ h. record { first = h.history.first; kept = h.history.kept; limit = h.history.limit; is_live = h.history.is_live } };
 }
 
 impl FileHistory {
@@ -68,7 +72,9 @@ impl FileHistory {
     // changes are made here, and `first`, `next` and `unread` go by the fields.
     fn change(&mut self, alloc: Global, change: Change, bytes: &[u8]) -> Result<(), AppendFault>
         requires { IsNumbered change }
-        ensures { Makes change bytes.now result self.old.first self.old.kept self.new.first self.new.kept }
+        ensures makes { Makes change bytes.now result self.old.first self.old.kept self.new.first self.new.kept }
+        ensures full { (result ≡ Err Full) ↔ (IsTrue self.old.is_live × HasNoRoom change self.old.limit self.old.kept (length bytes.now)) }
+        ensures reports { IfErr result (ReportsChange change self.old.is_live self.new.is_live) }
     {
         self.history.change(alloc, change, bytes)
     }
@@ -85,7 +91,12 @@ impl Records for FileHistory {
         self.history.first
     }
 
-    fn append(&mut self, alloc: Global, kind: Kind, bytes: &[u8]) -> Result<(), AppendFault> {
+    fn append(&mut self, alloc: Global, kind: Kind, bytes: &[u8]) -> Result<(), AppendFault>
+        ensures appends { Appends (record_of kind bytes.now) result self.old.kept self.new.kept }
+        ensures first { self.new.first ≡ self.old.first }
+        ensures full { (result ≡ Err Full) ↔ (IsTrue self.old.is_live × (HasRoom self.old.limit self.old.kept (length bytes.now) → ⊥)) }
+        ensures reports { IfErr result (Reports self.new.is_live) }
+    {
         self.change(alloc, Change::Append(kind), bytes)
     }
 
@@ -101,7 +112,13 @@ impl Records for FileHistory {
         false
     }
 
-    fn compact(&mut self, alloc: Global, number: u64, bytes: &[u8]) -> Result<(), AppendFault> {
+    fn compact(&mut self, alloc: Global, number: u64, bytes: &[u8]) -> Result<(), AppendFault>
+        requires { (1 ≤ number) × (number ≤ 2 ^ 53) }
+        ensures compacts { Compacts (record_of Profile bytes.now) result self.old.kept self.new.kept }
+        ensures first { Numbers number result self.old.first self.new.first }
+        ensures full { (result ≡ Err Full) ↔ (IsTrue self.old.is_live × (self.old.limit < length bytes.now)) }
+        ensures reports { IfErr result (ReportsCompaction self.old.is_live self.new.is_live) }
+    {
         self.change(alloc, Change::Compact(number), bytes)
     }
 }

@@ -116,6 +116,7 @@ fn loses_nothing(alloc: Global) -> bool {
 // rule: Kept records
 // rule: Restart after a crash
 // rule: Failed append
+// rule: Failed compaction
 // rule: Cause of a failure
 #[test]
 fn keeps_what_succeeded_wherever_the_log_stops(rt: HostRuntime) {

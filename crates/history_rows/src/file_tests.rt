@@ -67,6 +67,7 @@ fn is_so(alloc: Global, row: &str) -> Option<bool> {
 
 // rule: Limit of all records
 // rule: Compaction
+// rule: Failed compaction
 // rule: Records of a database
 // rule: Opened history
 // rule: Closed history

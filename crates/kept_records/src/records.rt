@@ -43,7 +43,9 @@ pub trait Records {
         ensures read { IfOk result (λ found. IfSome found (λ _. was_read self.new)) }
         ensures first { first self.new ≡ first self.old };
 
-    /// Forgets the last known record, if `next` gave it, so that it is read again; returns whether it did.
+    /// Forgets the last known record, so that the next read may give it again; returns whether it did.
+    ///
+    /// It does if `next` gave that record. Some stores do so of other records, too.
     fn unread(&mut self) -> bool
         ensures forgets { Forgets result (kept self.old) (kept self.new) }
         ensures read { was_read self.old → IsTrue result }
@@ -51,7 +53,8 @@ pub trait Records {
 
     /// Replaces all records by one, a profile, which gets this number, from 1 to 2^53.
     ///
-    /// Fails as `append` does; then all records are as before, or with `Unknown` replaced.
+    /// Fails as `append` does, with `Full` if the profile alone would be too large; then all records are as before, or with
+    /// `Unknown` replaced.
     fn compact(&mut self, alloc: Global, number: u64, bytes: &[u8]) -> Result<(), AppendFault>
         requires { (1 ≤ number) × (number ≤ 2 ^ 53) }
         ensures compacts { Compacts (record_of Profile bytes.now) result (kept self.old) (kept self.new) }

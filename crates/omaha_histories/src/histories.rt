@@ -1,7 +1,7 @@
 // What a server begins with, if what it publishes is kept.
 
-ghost use Rattle.std.specs.Prelude.{◌≡◌, [], ◌∷◌, IfErr, IfOk, IsTrue, Some};
-ghost use Rattle.omaha_histories.specs.Histories.{AreBegun, AreBegunAt, BeginWith, HasFirst, IsBeginning, IsFirst, IsHistoryFailure, IsNoBeginning, LeadToService};
+ghost use Rattle.std.specs.Prelude.{◌≡◌, ◌↔◌, [], ◌∷◌, IfErr, IfOk, IsTrue, Some};
+ghost use Rattle.omaha_histories.specs.Histories.{AreBegun, AreBegunAt, AreNoBeginning, BeginOtherwise, BeginWith, BeginsNothing, HasFirst, IsBeginning, IsFirst, IsHistoryFailure, IsNoBeginning, IsNotFirst, IsRestoreFailure, LeadNowhere, LeadToService};
 ghost use Rattle.omaha_histories.specs.Server.{first_in, known_in};
 ghost use Rattle.kept_records.specs.Keeping.{record_of};
 ghost use Rattle.kept_records.specs.declared.record.Kind.TheVariants.{Profile};
@@ -20,7 +20,7 @@ use worker_threads::Free;
 
 /// The failure of the history at a path.
 pub(crate) fn history_failure(path: &Text, fault: HistoryFault) -> Failure
-    ensures { IsHistoryFailure path.now result }
+    ensures { IsHistoryFailure path.now fault result }
 {
     match path.clone() {
         Ok(path) => Failure::History(path, fault),
@@ -30,7 +30,7 @@ pub(crate) fn history_failure(path: &Text, fault: HistoryFault) -> Failure
 
 /// The failure of a history whose records, of which the first has this number, lead to nothing.
 pub(crate) fn restore_failure(path: &Text, first: u64, error: RestoreError) -> Failure
-    ensures { IsHistoryFailure path.now result }
+    ensures { IsRestoreFailure path.now first error result }
 {
     match error {
         RestoreError::Empty => history_failure(path, HistoryFault::Empty),
@@ -59,7 +59,7 @@ fn adopt_first<R: AllocGlobal, K: Records>(
     requires { K.kept kept.old ≡ [] }
     ensures ok { IfOk result (λ _. K.kept kept.new ≡ record_of Profile bytes.now ∷ []) }
     ensures first { K.first kept.new ≡ K.first kept.old }
-    ensures err { IfErr result (IsHistoryFailure path.now) }
+    ensures err { IfErr result (IsNotFirst path.now) }
 {
     match kept.next(rt.alloc()) {
         Ok(Some(record)) => {
@@ -90,7 +90,7 @@ fn keep_first<R: AllocGlobal, K: Records>(
     requires { K.kept kept.old ≡ [] }
     ensures ok { IfOk result (λ _. K.kept kept.new ≡ record_of Profile bytes.now ∷ []) }
     ensures first { K.first kept.new ≡ K.first kept.old }
-    ensures err { IfErr result (IsHistoryFailure path.now) }
+    ensures err { IfErr result (IsNotFirst path.now) }
 {
     match kept.append(rt.alloc(), Kind::Profile, bytes) {
         Ok(()) => Ok(()),
@@ -111,7 +111,7 @@ fn begin<R: Disk + AllocGlobal + Threads + Sync, K: Records + Drop>(
     ensures leads { IfOk result (λ begun. LeadToService (K.kept begun.records) begun.service) }
     ensures begins { IfOk result (λ begun. IsFirst (R.file_at rt.now) profile.now (K.kept begun.records)) }
     ensures first { IfOk result (λ begun. K.first begun.records ≡ K.first kept) }
-    ensures err { IfErr result (IsNoBeginning (R.file_at rt.now) (Some path.now) profile.now) }
+    ensures err { IfErr result (BeginsNothing (R.file_at rt.now) path.now profile.now) }
 {
     let Some(profile) = profile else {
         return Err(history_failure(path, HistoryFault::Empty));
@@ -130,7 +130,7 @@ fn begin<R: Disk + AllocGlobal + Threads + Sync, K: Records + Drop>(
 
 // Whether the first record has these bytes.
 fn has_first(records: &[Record], bytes: &[u8]) -> bool
-    ensures { IsTrue result → HasFirst records.now bytes.now }
+    ensures { IsTrue result ↔ HasFirst records.now bytes.now }
 {
     match records.split_first() {
         Some((first, _others)) => first.bytes.as_slice() == bytes,
@@ -146,7 +146,7 @@ fn compare_first<R: Disk + AllocGlobal>(
     profile: &Option<Text>,
 ) -> Result<(), Failure>
     ensures begins { IfOk result (λ _. BeginWith (R.file_at rt.now) profile.now records.now) }
-    ensures err { IfErr result (IsNoBeginning (R.file_at rt.now) (Some path.now) profile.now) }
+    ensures err { IfErr result (BeginOtherwise (R.file_at rt.now) path.now profile.now records.now) }
 {
     let Some(profile) = profile else {
         return Ok(());
@@ -171,7 +171,7 @@ fn resume<R: Threads + AllocGlobal, K: Records + Drop>(
     ensures leads { IfOk result (λ begun. LeadToService (K.kept begun.records) begun.service) }
     ensures records { IfOk result (λ begun. K.kept begun.records ≡ records.now) }
     ensures first { IfOk result (λ begun. K.first begun.records ≡ K.first kept) }
-    ensures err { IfErr result (IsHistoryFailure path.now) }
+    ensures err { IfErr result (LeadNowhere path.now (K.first kept) records.now) }
 {
     let workers = workers.max(1).min(16);
     match restore(rt, rt.alloc(), records, workers, &Free) {
@@ -198,7 +198,7 @@ fn begin_from<R: Disk + AllocGlobal + Threads + Sync, K: Records + Drop>(
     ensures leads { IfOk result (λ begun. LeadToService (K.kept begun.records) begun.service) }
     ensures begins { IfOk result (λ begun. AreBegun (R.file_at rt.now) asked.now.profile records.now (K.kept begun.records)) }
     ensures first { IfOk result (λ begun. K.first begun.records ≡ K.first kept) }
-    ensures err { IfErr result (IsNoBeginning (R.file_at rt.now) (Some path.now) asked.now.profile) }
+    ensures err { IfErr result (AreNoBeginning (R.file_at rt.now) path.now asked.now.profile (K.first kept) records.now) }
 {
     let workers = asked.workers.min(16) as usize;
     if records.is_empty() {
@@ -235,7 +235,7 @@ fn open_history<R: Disk + AllocGlobal + Threads + Sync, H: Stores>(
 ) -> Result<KeptService<H::Kept>, Failure>
     ensures leads { IfOk result (λ begun. LeadToService (H.Kept.kept begun.records) begun.service) }
     ensures begins { IfOk result (λ begun. AreBegunAt (H.found stores.now) (R.file_at rt.now) path.now asked.now.profile (H.Kept.first begun.records) (H.Kept.kept begun.records)) }
-    ensures err { IfErr result (IsNoBeginning (R.file_at rt.now) (Some path.now) asked.now.profile) }
+    ensures err { IfErr result (IsNoBeginning (R.file_at rt.now) (H.found stores.now) (Some path.now) asked.now.profile) }
 {
     if asked.profile.is_none() && !is_there(rt, path) {
         return Err(history_failure(path, HistoryFault::Open(OpenFault::Unopened)));
@@ -259,7 +259,7 @@ pub fn open_beginning<R: Disk + AllocGlobal + Threads + Sync, H: Stores>(
 ) -> Result<KeptService<ServerRecords<H::Kept>>, Failure>
     ensures begins { IfOk result (λ begun. IsBeginning (R.file_at rt.now) (H.found stores.now) asked.now.history asked.now.profile
         (record { service = begun.service; first = first_in H.Kept.first begun.records; records = known_in H.Kept.kept begun.records })) }
-    ensures err { IfErr result (IsNoBeginning (R.file_at rt.now) asked.now.history asked.now.profile) }
+    ensures err { IfErr result (IsNoBeginning (R.file_at rt.now) (H.found stores.now) asked.now.history asked.now.profile) }
 {
     let Some(path) = &asked.history else {
         return match open_service(rt, &asked.profile, asked.workers.min(16) as usize) {

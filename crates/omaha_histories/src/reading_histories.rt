@@ -1,8 +1,8 @@
 // The command `history`.
 
-ghost use Rattle.std.specs.Prelude.{◌≡◌, ◌≤◌, ◌^◌, IfErr, IfOk, IfSome, Ok, Err};
+ghost use Rattle.std.specs.Prelude.{◌≡◌, ◌≤◌, ◌^◌, IfErr, IfOk, MatchOption, Ok, Err};
 ghost use Rattle.omaha_arguments.specs.declared.command.HistoryAction.TheVariants.{Export};
-ghost use Rattle.omaha_histories.specs.Histories.{AreOfEdition, IsHistoryFailure, IsShortened, IsFoundIn, IsFoundOf, PrintsHistory};
+ghost use Rattle.omaha_histories.specs.Histories.{AreNotExported, AreNotShortened, AreOfEdition, IsFoundIn, IsFoundOf, IsNotFoundOf, IsShortened, LackEdition, LeadNowhere, PrintsHistory};
 ghost use Rattle.omaha_commands.specs.declared.failure.Failure.TheVariants.{Memory};
 ghost use Rattle.omaha_histories.specs.Exporting.{IsExport};
 ghost use Rattle.omaha_histories.specs.Listing.{listing};
@@ -24,7 +24,7 @@ const MAX_NUMBER: u64 = 9007199254740992;
 // rule: Exported edition
 // The records up to the edition of a number, if they make it, of which the first is that of its own number.
 fn records_up_to(first: u64, records: &[Record], edition: u64) -> Option<&[Record]>
-    ensures { IfSome result (λ some. AreOfEdition first edition records.now some.now) }
+    ensures { MatchOption result (LackEdition first edition records.now) (λ some. AreOfEdition first edition records.now some.now) }
 {
     let before = edition.checked_sub(first)?;
     if before >= count_editions(records) {
@@ -41,7 +41,7 @@ fn export_all<R: Threads + AllocGlobal>(
     records: &[Record],
 ) -> Result<Vec<u8>, Failure>
     ensures ok { IfOk result (λ text. IsExport records.now text.items) }
-    ensures err { IfErr result (IsHistoryFailure path.now) }
+    ensures err { IfErr result (LeadNowhere path.now first records.now) }
 {
     match export(rt, rt.alloc(), records) {
         Ok(text) => Ok(text),
@@ -58,7 +58,7 @@ fn export_edition<R: Threads + AllocGlobal>(
     edition: Option<u64>,
 ) -> Result<Vec<u8>, Failure>
     ensures ok { IfOk result (λ text. IsFoundOf first records.now (Export edition) text.items) }
-    ensures err { IfErr result (IsHistoryFailure path.now) }
+    ensures err { IfErr result (AreNotExported path.now first records.now edition) }
 {
     match edition {
         None => export_all(rt, path, first, records),
@@ -78,7 +78,7 @@ fn shorten<R: Threads + AllocGlobal, K: Records>(
     records: &[Record],
 ) -> Result<(), Failure>
     ensures ok { IfOk result (λ _. IsShortened (K.first kept.old) records.now (K.first kept.new) (K.kept kept.new)) }
-    ensures err { IfErr result (IsHistoryFailure path.now) }
+    ensures err { IfErr result (AreNotShortened path.now (K.first kept.old) records.now) }
 {
     let first = kept.first();
     let text = match export_all(rt, path, first, records) {
@@ -115,7 +115,7 @@ fn found_in<R: Threads + AllocGlobal, K: Records + Drop>(
     asked: &HistoryAsked,
 ) -> Result<Vec<u8>, Failure>
     ensures ok { IfOk result (λ text. IsFoundOf (K.first kept) records.now asked.now.action text.items) }
-    ensures err { IfErr result (IsHistoryFailure asked.now.path) }
+    ensures err { IfErr result (IsNotFoundOf asked.now.path (K.first kept) records.now asked.now.action) }
 {
     let first = kept.first();
     match asked.action {

@@ -3,7 +3,7 @@
 ghost use Rattle.std.specs.Prelude.{◌≡◌, ◌++◌, ◌∷◌, [], MatchResult, Some};
 ghost use Rattle.http_desks.specs.Calls.{answer_in};
 ghost use Rattle.kept_records.specs.Keeping.{record_of};
-ghost use Rattle.service_desks.specs.Attempts.{IsUnkeptAttempt, attempt_in};
+ghost use Rattle.service_desks.specs.Attempts.{ComesTo, IsUnkeptAttempt, attempt_in, unkept_by};
 
 use crate::lines::{Line, reply_with};
 use http_desks::{Answer, Off};
@@ -32,7 +32,9 @@ pub(crate) enum Unkept {
     Closed,
 }
 
-fn unkept_by(fault: AppendFault) -> Unkept {
+fn unkept_by(fault: AppendFault) -> Unkept
+    ensures { result ≡ unkept_by fault }
+{
     match fault {
         AppendFault::Taken => Unkept::Taken,
         AppendFault::Failed(Cause::Unreachable) => Unkept::Unreachable,
@@ -71,7 +73,8 @@ pub(crate) fn replied(reply: Result<Answer, Off>) -> Result<Attempt, Off>
 
 /// What an attempt comes to whose script or raise isn't kept.
 pub(crate) fn give_up(alloc: Global, unkept: Unkept) -> Result<Attempt, Off>
-    ensures { IsUnkeptAttempt (attempt_in result) }
+    ensures unkept { IsUnkeptAttempt (attempt_in result) }
+    ensures by { ComesTo unkept (attempt_in result) }
 {
     match unkept {
         Unkept::Taken => Ok(Attempt::Overtaken),

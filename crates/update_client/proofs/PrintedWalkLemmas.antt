@@ -1,5 +1,5 @@
 -- A walk that didn't begin.
-use Rattle.std.proofs.Common.{ℕ, List, [], Err, refl, sym, append-nil}
+use Rattle.std.proofs.Common.{ℕ, List, [], Err, inl, refl, sym, append-nil}
 use Rattle.std.proofs.KnownBytes.{Appends-nil}
 use Rattle.streams.specs.Streams.{Known}
 use Rattle.values.specs.declared.read_error.ReadError.TheVariants as errors
@@ -11,6 +11,6 @@ pub walk_fails : (client : Installed) (old : List Post) (asked : List (List ℕ)
     → IsWalk client client old old asked asked received ended before before (Err errors.Memory)
 walk_fails client old asked received ended before = record {
   commits = [];
-  walks = record { turns = []; follows = refl; committed = refl; ends = sym (append-nil asked) };
+  walks = record { turns = []; follows = refl; committed = refl; ends = (inl (sym (append-nil old)), sym (append-nil asked)) };
   printed = Appends-nil before.bytes;
 }

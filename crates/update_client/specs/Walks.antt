@@ -119,10 +119,15 @@ StopsBy client steps old new asked opened received ended fault.BadHash =
     (accepted : Accepted) × Opens client old new asked opened accepted
     × FailsBy (part_of accepted.offer).size (part_of accepted.offer).hash received ended fault.BadHash
 
--- why a client stops: out of memory, with nothing opened, or that fault
+-- nothing was posted, or the client's own request was, and got a reply
+abbrev pub AsksOnceAtMost : Installed → List Post → List Post → Type 0
+AsksOnceAtMost client old new = (new ≡ old) ⊎ ((reply : List ℕ) × (new ≡ old ++ post_of client reply ∷ []))
+
+-- why a client stops: out of memory, after it asked or before, with nothing opened; or that fault
 abbrev pub Stops : Installed → ℕ → List Post → List Post → List (List ℕ) → List (List ℕ)
     → List ℕ → Type 0 → ReadError Fault → Type 0
-Stops client steps old new asked opened received ended errors.Memory = opened ≡ asked
+Stops client steps old new asked opened received ended errors.Memory =
+    AsksOnceAtMost client old new × (opened ≡ asked)
 Stops client steps old new asked opened received ended (errors.Fault found) =
     StopsBy client steps old new asked opened received ended found
 

@@ -100,6 +100,10 @@ impl<'a, R: Net<Listener = TcpListener, Stream = TcpStream> + Clock> HttpLink<'a
     /// a download may take so many seconds, at least one.
     pub fn new(alloc: Global, rt: &'a R, host: &'a str, seconds: u64) -> HttpLink<'a, R>
         requires limited { 0 < seconds }
+        ensures posts { result.posts ≡ [] }
+        ensures opened { result.opened ≡ [] }
+        ensures received { result.received ≡ [] }
+        ensures failures { result.failures ≡ [] }
     {
         HttpLink {
             alloc,
