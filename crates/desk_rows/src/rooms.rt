@@ -101,6 +101,7 @@ impl<R: Clock + Wait + AllocGlobal> System<Script> for Rooms<'_, R> {
     ghost use Rattle.std.specs.Prelude.{⊤};
 
     ghost edges = { λ _. record {
+      holds = λ _ _ _. ⊤;
       listens = λ _ _. ⊤;
       folders = λ _. ⊤;
       sizes = λ _ _ _. ⊤;

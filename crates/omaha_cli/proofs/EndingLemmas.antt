@@ -19,23 +19,23 @@ use Rattle.omaha_cli.specs.declared.running.Status.{Status}
 use Rattle.omaha_cli.specs.declared.running.Status.TheVariants as status
 
 pub Ends-without_command :
-    (world : World) (words : List (List ℕ)) (input before after : Known) (error : ArgumentError) (ended : Ending) →
+    (world : World) (words : List (List ℕ)) (input old new before after : Known) (error : ArgumentError) (ended : Ending) →
     IsWhy (faults_of words) error →
-    EndsBy error before after ended →
-    Ends world words None (record { input = input; output = before }) (record { input = input; output = after }) ended
-Ends-without_command world words input before after (argument.Shown text) ending.Shown why shows = (why, (text, shows), refl)
-Ends-without_command world words input before after (argument.Shown text) (ending.Failed refusal) why shows =
+    EndsBy error old new ended →
+    Ends world words None (record { input = input; output = old }) (record { input = input; output = new }) before after ended
+Ends-without_command world words input old new before after (argument.Shown text) ending.Shown why shows = (why, (text, shows), refl)
+Ends-without_command world words input old new before after (argument.Shown text) (ending.Failed refusal) why shows =
     inl (why, shows.0, (text, shows.1), refl)
-Ends-without_command world words input before after (argument.Shown text) ending.Replied why shows = absurd shows
-Ends-without_command world words input before after (argument.Shown text) (ending.Mistaken other) why shows = absurd shows
-Ends-without_command world words input before after (argument.Invalid text) (ending.Mistaken other) why is = (why, cc is.1)
-Ends-without_command world words input before after (argument.Invalid text) ending.Replied why is = absurd (cc is.0)
-Ends-without_command world words input before after (argument.Invalid text) ending.Shown why is = absurd (cc is.0)
-Ends-without_command world words input before after (argument.Invalid text) (ending.Failed refusal) why is = absurd (cc is.0)
-Ends-without_command world words input before after argument.Memory (ending.Failed refusal) why is = inr (cc is.0, cc is.1)
-Ends-without_command world words input before after argument.Memory ending.Replied why is = absurd (cc is.0)
-Ends-without_command world words input before after argument.Memory ending.Shown why is = absurd (cc is.0)
-Ends-without_command world words input before after argument.Memory (ending.Mistaken other) why is = absurd (cc is.0)
+Ends-without_command world words input old new before after (argument.Shown text) ending.Replied why shows = absurd shows
+Ends-without_command world words input old new before after (argument.Shown text) (ending.Mistaken other) why shows = absurd shows
+Ends-without_command world words input old new before after (argument.Invalid text) (ending.Mistaken other) why is = (why, cc is.1)
+Ends-without_command world words input old new before after (argument.Invalid text) ending.Replied why is = absurd (cc is.0)
+Ends-without_command world words input old new before after (argument.Invalid text) ending.Shown why is = absurd (cc is.0)
+Ends-without_command world words input old new before after (argument.Invalid text) (ending.Failed refusal) why is = absurd (cc is.0)
+Ends-without_command world words input old new before after argument.Memory (ending.Failed refusal) why is = inr (cc is.0, cc is.1)
+Ends-without_command world words input old new before after argument.Memory ending.Replied why is = absurd (cc is.0)
+Ends-without_command world words input old new before after argument.Memory ending.Shown why is = absurd (cc is.0)
+Ends-without_command world words input old new before after argument.Memory (ending.Mistaken other) why is = absurd (cc is.0)
 
 -- the status of a usage error is that of an ending by invalid arguments
 pub Usage-two : (ended : Ending) (returned : Status) (code : ℕ) → code ≡ code_of returned → returned ≡ status_of ended → code ≡ 2 → status_of ended ≡ status.Usage
@@ -45,32 +45,33 @@ Usage-two ended status.Usage code is of two = cc
 
 -- a task was asked for, and ended as it does
 pub Ends-with_task :
-    (world : World) (words : List (List ℕ)) (asked : Invocation) (task : Option Task) (old new : Streams) (ended : Ending) →
-    faults_of words ≡ [] → asked ≡ invocation_of words → EndsTask world asked task old new ended →
-    Ends world words task old new ended
-Ends-with_task world words asked (Some task) old new ended none same ends =
-    (none, subst (λ (a : Invocation). EndsTask world a (Some task) old new ended) same ends)
-Ends-with_task world words asked None old new ending.Replied none same ends = absurd ends
-Ends-with_task world words asked None old new ending.Shown none same ends = absurd ends
-Ends-with_task world words asked None old new (ending.Failed refusal) none same ends = absurd ends
-Ends-with_task world words asked None old new (ending.Mistaken text) none same ends = absurd ends
+    (world : World) (words : List (List ℕ)) (asked : Invocation) (task : Option Task) (old new : Streams) (before after : Known)
+    (ended : Ending) → faults_of words ≡ [] → asked ≡ invocation_of words → EndsTask world asked task old new before after ended →
+    Ends world words task old new before after ended
+Ends-with_task world words asked (Some task) old new before after ended none same ends =
+    (none, subst (λ (a : Invocation). EndsTask world a (Some task) old new before after ended) same ends)
+Ends-with_task world words asked None old new before after ending.Replied none same ends = absurd ends
+Ends-with_task world words asked None old new before after ending.Shown none same ends = absurd ends
+Ends-with_task world words asked None old new before after (ending.Failed refusal) none same ends = absurd ends
+Ends-with_task world words asked None old new before after (ending.Mistaken text) none same ends = absurd ends
 
 -- such an ending is no mistake of the arguments
 pub EndsTask-no_mistake :
-    {Z : Type 0} (world : World) (asked : Invocation) (task : Option Task) (old new : Streams) (ended : Ending) →
-    EndsTask world asked task old new ended → IsMistaken ended → Z
-EndsTask-no_mistake world asked task old new ending.Replied ends mistaken = cc
-EndsTask-no_mistake world asked task old new ending.Shown ends mistaken = cc
-EndsTask-no_mistake world asked task old new (ending.Failed refusal) ends mistaken = cc
-EndsTask-no_mistake world asked (Some task) old new (ending.Mistaken text) ends mistaken = absurd ends
-EndsTask-no_mistake world asked None old new (ending.Mistaken text) ends mistaken = absurd ends
+    {Z : Type 0} (world : World) (asked : Invocation) (task : Option Task) (old new : Streams) (before after : Known)
+    (ended : Ending) → EndsTask world asked task old new before after ended → IsMistaken ended → Z
+EndsTask-no_mistake world asked task old new before after ending.Replied ends mistaken = cc
+EndsTask-no_mistake world asked task old new before after ending.Shown ends mistaken = cc
+EndsTask-no_mistake world asked task old new before after (ending.Failed refusal) ends mistaken = cc
+EndsTask-no_mistake world asked (Some task) old new before after (ending.Mistaken text) ends mistaken = absurd ends
+EndsTask-no_mistake world asked None old new before after (ending.Mistaken text) ends mistaken = absurd ends
 
 -- what a task came to is how it ends
 pub EndsTask-ending_of :
-    (world : World) (asked : Invocation) (task : Task) (old new : Streams) (done : Result (Unit {0}) Failure) →
-    IsTaskOf world asked task → Does world task old new done → EndsTask world asked (Some task) old new (ending_of done)
-EndsTask-ending_of world asked task old new (Ok done) is does = (is, does)
-EndsTask-ending_of world asked task old new (Err refusal) is does = (is, does)
+    (world : World) (asked : Invocation) (task : Task) (old new : Streams) (before after : Known)
+    (done : Result (Unit {0}) Failure) → IsTaskOf world asked task → Does world task old new before after done →
+    EndsTask world asked (Some task) old new before after (ending_of done)
+EndsTask-ending_of world asked task old new before after (Ok done) is does = (is, does)
+EndsTask-ending_of world asked task old new before after (Err refusal) is does = (is, does)
 
 -- and what it printed on the standard error is what was printed before that
 pub IsLoggedBy-ending_of :

@@ -26,31 +26,32 @@ use Rattle.omaha_cli.specs.declared.running.Task.{Task}
 
 -- a reply to a request, a report on a profile or on its packages, a review, a picture, descriptions of files, the
 -- explanation of a code, a script, what a history has, a server, a walk, or a call of an operator's listener
-abbrev pub DoesBy : World → Manner → Command → Streams → Streams → Result (Unit {0}) Failure → Type 0
-DoesBy world manner (command.Once once) old new result = Responds world.files once old new result
-DoesBy world manner (command.Report report) old new result = Reports world.files report old new result
-DoesBy world manner (command.Review asked) old new result = Reviews world.files world.operated manner.shown asked old new result
-DoesBy world manner (command.Graph asked) old new result = PrintsGraph world.files asked old new result
-DoesBy world manner (command.Compare asked) old new result = Compares world.files world.storage asked old new result
-DoesBy world manner (command.Describe paths) old new result = PrintsDescriptions world.storage paths old new result
-DoesBy world manner (command.Explain code) old new result = Explains code old new result
-DoesBy world manner (command.History asked) old new result = PrintsHistory world.stored asked old new result
-DoesBy world manner (command.Serve serve) old new result = ServesOn world.files world.stored world.edges manner.verbose serve old new result
-DoesBy world manner (command.Walk walk) old new result = WalksOn world.replies walk old new result
-DoesBy world manner (command.Publish asked) old new result = Publishes world.files world.storage world.operated manner.shown asked old new result
-DoesBy world manner (command.Script asked) old new result = PrintsScript world.operated asked old new result
-DoesBy world manner (command.Raise asked) old new result =
+abbrev pub DoesBy : World → Manner → Command → Streams → Streams → Known → Known → Result (Unit {0}) Failure → Type 0
+DoesBy world manner (command.Once once) old new before after result = Responds world.files once old new result
+DoesBy world manner (command.Report report) old new before after result = Reports world.files report old new result
+DoesBy world manner (command.Review asked) old new before after result = Reviews world.files world.operated manner.shown asked old new result
+DoesBy world manner (command.Graph asked) old new before after result = PrintsGraph world.files asked old new result
+DoesBy world manner (command.Compare asked) old new before after result = Compares world.files world.storage asked old new result
+DoesBy world manner (command.Describe paths) old new before after result = PrintsDescriptions world.storage paths old new result
+DoesBy world manner (command.Explain code) old new before after result = Explains code old new result
+DoesBy world manner (command.History asked) old new before after result = PrintsHistory world.stored asked old new result
+DoesBy world manner (command.Serve serve) old new before after result =
+    ServesOn world.files world.stored world.edges manner.verbose serve old new before after result
+DoesBy world manner (command.Walk walk) old new before after result = WalksOn world.replies walk old new result
+DoesBy world manner (command.Publish asked) old new before after result = Publishes world.files world.storage world.operated manner.shown asked old new result
+DoesBy world manner (command.Script asked) old new before after result = PrintsScript world.operated asked old new result
+DoesBy world manner (command.Raise asked) old new before after result =
     Raises world.operated manner.shown asked old.output new.output result × (new.input ≡ old.input)
-DoesBy world manner (command.Dump asked) old new result =
+DoesBy world manner (command.Dump asked) old new before after result =
     Dumps world.operated manner.shown asked.to old.output new.output result × (new.input ≡ old.input)
-DoesBy world manner (command.Status asked) old new result =
+DoesBy world manner (command.Status asked) old new before after result =
     PrintsStatus world.operated manner.shown asked.to old.output new.output result × (new.input ≡ old.input)
-DoesBy world manner (command.Stop asked) old new result =
+DoesBy world manner (command.Stop asked) old new before after result =
     Stops world.operated world.endings manner.shown asked old.output new.output result × (new.input ≡ old.input)
 
--- what a task does: its command, printed in its manner
-abbrev pub Does : World → Task → Streams → Streams → Result (Unit {0}) Failure → Type 0
-Does world task old new result = DoesBy world task.manner task.command old new result
+-- what a task does: its command, printed in its manner, between what was on the standard error before and is after it
+abbrev pub Does : World → Task → Streams → Streams → Known → Known → Result (Unit {0}) Failure → Type 0
+Does world task old new before after result = DoesBy world task.manner task.command old new before after result
 
 -- what the command prints on the standard error itself: a server may log its replies there, a verbose dump prints the
 -- line of the edition, and any other command prints nothing

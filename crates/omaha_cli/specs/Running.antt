@@ -74,27 +74,28 @@ IsTaskOf world asked task =
     (task.command ≡ asked.command) × IsManner world.output_seen world.errors_seen asked.verbose task.manner
 
 -- a task was carried out, or failed
-abbrev pub EndsTask : World → Invocation → Option Task → Streams → Streams → Ending → Type 0
-EndsTask world asked (Some task) old new ending.Replied = IsTaskOf world asked task × Does world task old new (Ok tt)
-EndsTask world asked (Some task) old new (ending.Failed refusal) =
-    IsTaskOf world asked task × Does world task old new (Err refusal)
-EndsTask world asked task old new other = ⊥
+abbrev pub EndsTask : World → Invocation → Option Task → Streams → Streams → Known → Known → Ending → Type 0
+EndsTask world asked (Some task) old new before after ending.Replied =
+    IsTaskOf world asked task × Does world task old new before after (Ok tt)
+EndsTask world asked (Some task) old new before after (ending.Failed refusal) =
+    IsTaskOf world asked task × Does world task old new before after (Err refusal)
+EndsTask world asked task old new before after other = ⊥
 
 -- How a run ends, by its arguments, with the task that they ask for. A command does what its own relation says.
-abbrev pub Ends : World → List (List ℕ) → Option Task → Streams → Streams → Ending → Type 0
-Ends world words (Some task) old new ended =
-    (faults_of words ≡ []) × EndsTask world (invocation_of words) (Some task) old new ended
-Ends world words None old new ending.Shown =
+abbrev pub Ends : World → List (List ℕ) → Option Task → Streams → Streams → Known → Known → Ending → Type 0
+Ends world words (Some task) old new before after ended =
+    (faults_of words ≡ []) × EndsTask world (invocation_of words) (Some task) old new before after ended
+Ends world words None old new before after ending.Shown =
     AsksToShow (faults_of words)
     × ((text : List ℕ) × Appends old.output.bytes new.output.bytes text)
     × (new.input ≡ old.input)
-Ends world words None old new (ending.Mistaken text) = HasMistake (faults_of words) × (new ≡ old)
-Ends world words None old new (ending.Failed refusal) =
+Ends world words None old new before after (ending.Mistaken text) = HasMistake (faults_of words) × (new ≡ old)
+Ends world words None old new before after (ending.Failed refusal) =
     (AsksToShow (faults_of words) × (refusal ≡ failure.Write)
     × ((text : List ℕ) × Breaks old.output new.output text)
     × (new.input ≡ old.input))
     ⊎ ((refusal ≡ failure.Memory) × (new ≡ old))
-Ends world words None old new ending.Replied = ⊥
+Ends world words None old new before after ending.Replied = ⊥
 
 -- the line of a failure
 abbrev pub failure_line : Failure → List ℕ
@@ -147,8 +148,8 @@ IsAdvised files sights task other before after = after ≡ before
 pub record Runs (world : World) (words : List (List ℕ)) (old new : Streams) (before after : Known) (code : ℕ) : Type 0 where
   pub ended : Ending
   pub task : Option Task
-  pub ends : Ends world words task old new ended
   pub between : Known
+  pub ends : Ends world words task old new before between ended
   pub logged : IsLoggedBy world.operated task ended before between
   pub failed : Known
   pub reported : IsReported ended between failed

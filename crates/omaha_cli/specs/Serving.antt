@@ -1,12 +1,14 @@
 -- What the command `serve` does; this project's profile.
-use Rattle.std.specs.Prelude.{◌≡◌, ◌⊎◌, ℕ, Bool, true, false, codes, max, min, List, Option, None, Some, Result, Ok, Err}
+use Rattle.std.specs.Prelude.{◌≡◌, ◌⊎◌, ℕ, Bool, true, false, codes, max, min, List, Option, None, Some, Result, Ok, Err, IfErr, IfOk}
+use Rattle.std.specs.Option.{is_some}
 use Rattle.streams.specs.Streams.{Known}
 use Rattle.omaha_arguments.specs.declared.command.Serve.{Serve}
 use Rattle.etcd_records.specs.Paths.{is_etcd_path}
 use Rattle.systems.specs.Edges.{Edges}
 use Rattle.omaha_server.specs.Checks.{IsStockedFor}
+use Rattle.omaha_server.specs.Logging.{AreLogged, IsLoggedHere}
 use Rattle.omaha_server.specs.Passages.{Passages}
-use Rattle.omaha_server.specs.Serving.{IsLogged, LogsElsewhere, Serves}
+use Rattle.omaha_server.specs.Serving.{IsEarly, IsLogged, LogsElsewhere, Serves}
 use Rattle.omaha_server.specs.declared.error.ServerError.{ServerError}
 use Rattle.omaha_server.specs.declared.error.ServerError.TheVariants as server
 use Rattle.omaha_server.specs.declared.place.Place.{Place}
@@ -85,42 +87,53 @@ pub record IsPlaceOf (serve : Serve) (verbose : Bool) (place : Place) : Type 0 w
   pub named : place.named ≡ served_name verbose serve.profile serve.history
   pub version : place.version ≡ codes "0.2.0"
 
--- what a server began with was served at a place to its end, or to an error; what is kept begins with its records
-pub record IsHostedBy (edges : Edges) (place : Place) (begins : Beginning) (serve : Serve) (old new : Known) (result : Result (Unit {0}) Failure) : Type 0 where
+-- what a server began with was served at a place to its end, or to an error; what is kept begins with its records. What
+-- was sent to the log for each port is the lines of its replies; and after what was there, the standard error has them, if
+-- that is the log. It is as it was if the server ended before a line was sent.
+pub record IsHostedBy (edges : Edges) (place : Place) (begins : Beginning) (serve : Serve) (old new before after : Known)
+    (result : Result (Unit {0}) Failure) : Type 0 where
   pub ended : Result Passages ServerError
   pub serves : Serves edges place begins.service (store begins.first begins.records None) old new ended
   pub logged : IsLogged edges place.log ended
+  pub sents : List (List ℕ)
+  pub replies : IfOk ended (λ passages. AreLogged (is_some place.log) passages sents)
+  pub lines : IfOk ended (λ _. IsLoggedHere place sents before after)
+  pub early : IfErr ended (λ error. IsEarly error → after ≡ before)
   pub stocked : IsStockedFor edges place begins.service.edition old new ended
   pub ends : EndsAs ended serve result
 
 -- so at the place that the arguments name
-pub record IsHostedAt (edges : Edges) (verbose : Bool) (begins : Beginning) (serve : Serve) (old new : Known) (result : Result (Unit {0}) Failure) : Type 0 where
+pub record IsHostedAt (edges : Edges) (verbose : Bool) (begins : Beginning) (serve : Serve) (old new before after : Known)
+    (result : Result (Unit {0}) Failure) : Type 0 where
   pub place : Place
   pub placed : IsPlaceOf serve verbose place
-  pub hosted : IsHostedBy edges place begins serve old new result
+  pub hosted : IsHostedBy edges place begins serve old new before after result
 
--- a server that shares its history had no thread that looks for records of others: nothing was served
-abbrev pub IsAlone : Serve → Known → Known → Result (Unit {0}) Failure → Type 0
-IsAlone serve old new result =
+-- a server that shares its history had no thread that looks for records of others: nothing was served, nor printed
+abbrev pub IsAlone : Serve → Known → Known → Known → Known → Result (Unit {0}) Failure → Type 0
+IsAlone serve old new before after result =
     ((address : List ℕ) × (followed_at serve.history serve.operator ≡ Some address))
-    × (result ≡ Err failure.Thread) × (new ≡ old)
+    × (result ≡ Err failure.Thread) × (new ≡ old) × (after ≡ before)
 
 -- the same, or there was no such thread, or memory ran out before
-abbrev pub IsHosted : Edges → Bool → Beginning → Serve → Known → Known → Result (Unit {0}) Failure → Type 0
-IsHosted edges verbose begins serve old new result =
-    IsHostedAt edges verbose begins serve old new result
-    ⊎ IsAlone serve old new result
-    ⊎ ((result ≡ Err failure.Memory) × (new ≡ old))
+abbrev pub IsHosted : Edges → Bool → Beginning → Serve → Known → Known → Known → Known → Result (Unit {0}) Failure → Type 0
+IsHosted edges verbose begins serve old new before after result =
+    IsHostedAt edges verbose begins serve old new before after result
+    ⊎ IsAlone serve old new before after result
+    ⊎ ((result ≡ Err failure.Memory) × (new ≡ old) × (after ≡ before))
 
 -- what follows from what the server begins with
-abbrev pub IsServedBy : Edges → Bool → Result Beginning Failure → Serve → Streams → Streams → Result (Unit {0}) Failure → Type 0
-IsServedBy edges verbose (Ok begins) serve old new result =
-    IsHosted edges verbose begins serve old.output new.output result × (new.input ≡ old.input)
-IsServedBy edges verbose (Err refusal) serve old new result = (result ≡ Err refusal) × (new ≡ old)
+abbrev pub IsServedBy : Edges → Bool → Result Beginning Failure → Serve → Streams → Streams → Known → Known → Result (Unit {0}) Failure → Type 0
+IsServedBy edges verbose (Ok begins) serve old new before after result =
+    IsHosted edges verbose begins serve old.output new.output before after result × (new.input ≡ old.input)
+IsServedBy edges verbose (Err refusal) serve old new before after result =
+    (result ≡ Err refusal) × (new ≡ old) × (after ≡ before)
 
 -- rule: Service over HTTP
--- what a server begins with is opened first: that of the history that is named, or of the profile; its service is served
-pub record ServesOn (files : Files) (stored : Stored) (edges : Edges) (verbose : Bool) (serve : Serve) (old new : Streams) (result : Result (Unit {0}) Failure) : Type 0 where
+-- what a server begins with is opened first: that of the history that is named, or of the profile; its service is served,
+-- with the standard error that was before and is after it
+pub record ServesOn (files : Files) (stored : Stored) (edges : Edges) (verbose : Bool) (serve : Serve) (old new : Streams)
+    (before after : Known) (result : Result (Unit {0}) Failure) : Type 0 where
   pub made : Result Beginning Failure
   pub begun : IsBegun files stored serve.history serve.profile made
-  pub follows : IsServedBy edges verbose made serve old new result
+  pub follows : IsServedBy edges verbose made serve old new before after result

@@ -131,7 +131,8 @@ fn obey<
     ensures logs { Logs (R.operated rt.now) task.now (F.output errors.old) (F.output errors.new) result }
     ensures does { Does (record { files = R.file_at rt.now; storage = R.storage rt.now; stored = H.found stores.now; edges = S.edges system.now; replies = R.replies rt.now; operated = R.operated rt.now; endings = R.endings rt.now; sights = R.sights rt.now; output_seen = W.seen writer.old; errors_seen = F.seen errors.old }) task.now
         (record { input = I.input reader.old; output = W.output writer.old })
-        (record { input = I.input reader.new; output = W.output writer.new }) result }
+        (record { input = I.input reader.new; output = W.output writer.new })
+        (F.output errors.old) (F.output errors.new) result }
 {
     let manner = task.manner;
     match &task.command {
@@ -214,7 +215,8 @@ fn carry_out_task<
     ensures logged { IsLoggedBy (R.operated rt.now) result.task result.ending (F.output errors.old) (F.output errors.new) }
     ensures ends { EndsTask (record { files = R.file_at rt.now; storage = R.storage rt.now; stored = H.found stores.now; edges = S.edges system.now; replies = R.replies rt.now; operated = R.operated rt.now; endings = R.endings rt.now; sights = R.sights rt.now; output_seen = W.seen writer.old; errors_seen = F.seen errors.old }) invocation result.task
         (record { input = I.input reader.old; output = W.output writer.old })
-        (record { input = I.input reader.new; output = W.output writer.new }) result.ending }
+        (record { input = I.input reader.new; output = W.output writer.new })
+        (F.output errors.old) (F.output errors.new) result.ending }
 {
     let Invocation { command, verbose } = invocation;
     let manner = manner_of(verbose, writer, errors);
@@ -247,7 +249,8 @@ fn carry_out<
     ensures logged { IsLoggedBy (R.operated rt.now) result.task result.ending (F.output errors.old) (F.output errors.new) }
     ensures ends { Ends (record { files = R.file_at rt.now; storage = R.storage rt.now; stored = H.found stores.now; edges = S.edges system.now; replies = R.replies rt.now; operated = R.operated rt.now; endings = R.endings rt.now; sights = R.sights rt.now; output_seen = W.seen writer.old; errors_seen = F.seen errors.old }) (map string_bytes arguments.now) result.task
         (record { input = I.input reader.old; output = W.output writer.old })
-        (record { input = I.input reader.new; output = W.output writer.new }) result.ending }
+        (record { input = I.input reader.new; output = W.output writer.new })
+        (F.output errors.old) (F.output errors.new) result.ending }
     ensures untouched { IsMistaken result.ending → (reader.new ≡ reader.old) × (writer.new ≡ writer.old) }
 {
     match read_arguments(rt.alloc(), arguments) {

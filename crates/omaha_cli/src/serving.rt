@@ -165,7 +165,7 @@ fn host<
 ) -> Result<(), Failure>
     ensures hosted { IsHostedBy (S.edges system.now) place.now
         (record { service = kept.service; first = K.first kept.records; records = K.kept kept.records }) asked.now
-        (W.output writer.old) (W.output writer.new) result }
+        (W.output writer.old) (W.output writer.new) (F.output errors.old) (F.output errors.new) result }
     ensures silent { IsSilent place.now → errors.new ≡ errors.old }
 {
     let ended = serve(rt, system, kept, place, &Free, writer, errors);
@@ -204,8 +204,8 @@ fn serve_kept<
 ) -> Result<(), Failure>
     ensures hosted { IsHostedBy (S.edges system.now) place.now
         (record { service = kept.service; first = K.first kept.records; records = K.kept kept.records }) asked.now
-        (W.output writer.old) (W.output writer.new) result
-        ⊎ IsAlone asked.now (W.output writer.old) (W.output writer.new) result }
+        (W.output writer.old) (W.output writer.new) (F.output errors.old) (F.output errors.new) result
+        ⊎ IsAlone asked.now (W.output writer.old) (W.output writer.new) (F.output errors.old) (F.output errors.new) result }
     ensures silent { IsSilent place.now → errors.new ≡ errors.old }
 {
     let Some(operator) = followed_at(asked) else {
@@ -223,8 +223,9 @@ fn serve_kept<
         &mut || -> Result<(), Failure>
             ensures hosted { IfSome kept.entry (λ served. IsHostedBy (S.edges system.entry.now) place.entry.now
                 (record { service = served.service; first = K.first served.records; records = K.kept served.records }) asked.entry.now
-                (W.output writer.entry.now) (W.output writer.exit.now) result
-                ⊎ ((result ≡ Err Thread) × (W.output writer.exit.now ≡ W.output writer.entry.now))) }
+                (W.output writer.entry.now) (W.output writer.exit.now) (F.output errors.entry.now) (F.output errors.exit.now) result
+                ⊎ ((result ≡ Err Thread) × (W.output writer.exit.now ≡ W.output writer.entry.now)
+                × (F.output errors.exit.now ≡ F.output errors.entry.now))) }
             ensures silent { IsSilent place.entry.now → errors.exit.now ≡ errors.entry.now }
         {
             let ended = match kept.take() {
@@ -274,7 +275,8 @@ pub(crate) fn serve_profile<
     ensures silent { IsQuiet verbose asked.now.log → errors.new ≡ errors.old }
     ensures serves { (input : Known) → ServesOn (R.file_at rt.now) (H.found stores.now) (S.edges system.now) verbose asked.now
         (record { input = input; output = W.output writer.old })
-        (record { input = input; output = W.output writer.new }) result }
+        (record { input = input; output = W.output writer.new })
+        (F.output errors.old) (F.output errors.new) result }
 {
     let kept = match open_beginning(rt, stores, asked) {
         Ok(kept) => kept,

@@ -214,7 +214,7 @@ module _ {S R P K : Type 0} (O : Type 0) (edges_of : S → Edges) (terms_of : P 
       {X : Type 0} (jobs : List (Clients S R P O)) (own : Operating S R P K O) (single : Bool)
       (ran : Result (Ran (Clients S R P O) (Operating S R P K O) (Visited P) (Operated P)) X) (ended : Ended (Visited P) (Operated P)) (run : Run P) →
       AreMirrors mirrors →
-      IsManned terms_of setup jobs own → is_single (is_some setup.place.now.operator) setup.place.now.workers ≡ single →
+      IsManned (edges_of setup.system.now) terms_of setup jobs own → is_single (is_some setup.place.now.operator) setup.place.now.workers ≡ single →
       IfOk ran (λ done. (asks : List (List Ask)) × HaveWorked (comes single) jobs asks done.ends.items × AreTotalsOf done.mirrors.items asks done.totals.items
       × HadNoRoom mirrors asks done.totals.items) →
       IfOk ran (λ done. HasEnded (λ before after. led own before after) mirrors done.mirrors.items done.own) →
@@ -267,6 +267,7 @@ module _ {S R P K : Type 0} (O : Type 0) (edges_of : S → Edges) (terms_of : P 
         many = all.1;
         ports = length-map ports passage ∙ length-map ended.clients.items (λ (end : Visited P). end.served.port) ∙ ended_all ∙ manned.many;
         capacity = manned.capacity;
+        held = manned.held;
         served = λ worker c a p below.
             subst (λ (s : Bool). AreServed edges place (client_terms place manned.capacity worker) s mirrors (fresh own.press)
             (get_or all.0 worker c) (get_or asks worker a) (get_or (map passage ports) worker p)) (sym alone) ((all.2 worker c below).1 a p);
@@ -288,7 +289,7 @@ module _ {S R P K : Type 0} (O : Type 0) (edges_of : S → Edges) (terms_of : P 
   pub AreLogged-run :
       {X : Type 0} (jobs : List (Clients S R P O)) (own : Operating S R P K O) (single : Bool)
       (ran : Result (Ran (Clients S R P O) (Operating S R P K O) (Visited P) (Operated P)) X) (ended : Ended (Visited P) (Operated P)) (run : Run P) →
-      IsManned terms_of setup jobs own →
+      IsManned (edges_of setup.system.now) terms_of setup jobs own →
       IfOk ran (λ done. (asks : List (List Ask)) × HaveWorked (comes single) jobs asks done.ends.items × AreTotalsOf done.mirrors.items asks done.totals.items
       × HadNoRoom mirrors asks done.totals.items) →
       IfOk ran (λ done. HasEnded (λ before after. led own before after) mirrors done.mirrors.items done.own) →
@@ -331,17 +332,18 @@ is_operated place terms_of (Some port) is = is.0
 
 -- jobs over new ports are those of a setup
 pub IsManned-over :
-    {S R P K O : Type 0} (terms_of : P → Terms) (slots_of : P → ℕ → Slot) (accepted_of : P → ℕ) (IsOver : P → Type 0)
-    (setup : Setup S R) (ports : Ports P) (jobs : List (Clients S R P O)) (own : Operating S R P K O) →
-    ArePorts terms_of slots_of accepted_of IsOver setup.place.now ports →
+    {S R P K O : Type 0} (edges : Edges) (terms_of : P → Terms) (slots_of : P → ℕ → Slot) (accepted_of : P → ℕ)
+    (IsOver : P → Type 0) (setup : Setup S R) (ports : Ports P) (jobs : List (Clients S R P O)) (own : Operating S R P K O) →
+    ArePorts edges terms_of slots_of accepted_of IsOver setup.place.now ports →
     map (λ (job : Clients S R P O). job.port) jobs ≡ ports.clients.items → All (IsClients setup (fresh own.press)) jobs →
     own.setup.now ≡ setup → has_operator own.port ≡ is_some ports.operator →
     terms_left terms_of own.port ≡ option_map terms_of ports.operator →
     All (λ (line : Option Sending). is_some line ≡ is_some setup.place.now.log) (map (λ (job : Clients S R P O). job.lines) jobs) →
-    is_some own.lines ≡ (is_some setup.place.now.log && is_some setup.place.now.operator) → IsManned terms_of setup jobs own
-IsManned-over {S} {R} {P} {K} {O} terms_of slots_of accepted_of IsOver setup ports jobs own are same each with operates terms lined own_lined = record {
+    is_some own.lines ≡ (is_some setup.place.now.log && is_some setup.place.now.operator) → IsManned edges terms_of setup jobs own
+IsManned-over {S} {R} {P} {K} {O} edges terms_of slots_of accepted_of IsOver setup ports jobs own are same each with operates terms lined own_lined = record {
   many = sym (length-map jobs (λ (job : Clients S R P O). job.port)) ∙ ap length same ∙ are.many;
   capacity = are.capacity;
+  held = are.held;
   ports = subst (λ (list : List P). AreClientTerms setup.place.now are.capacity (map terms_of list)) (sym same) are.terms;
   each = each;
   with = with;

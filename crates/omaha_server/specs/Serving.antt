@@ -20,6 +20,7 @@ use Rattle.service_desks.specs.Workers.{IsCall, Progress}
 use Rattle.streams.specs.Streams.{Known}
 use Rattle.streams.specs.Writing.{Breaks}
 use Rattle.replies.specs.Asking.{GrantsFirst}
+use Rattle.systems.specs.Capacities.{IsCapacity}
 use Rattle.systems.specs.Edges.{Edges}
 use Rattle.omaha_server.specs.Checks.{ChecksCall, IsStopped, LeadsPast, sizes_at}
 use Rattle.omaha_server.specs.Logging.{is_dash}
@@ -135,10 +136,11 @@ state_of service kept = record { mirrors = service.mirrors; history = service.ed
 
 -- rule: Totals of a server
 -- what was done at the ports is a run of the service, from its edition and from what was kept: each worker served a port
--- with its portion of the sessions, with a view that had seen that edition; the operator's port was served, if there is an
--- operator; each worker's view may enter what is left; the totals are the sums of what the workers asked for, each
--- within the budget that its mirror has after the operator's last connection; what was rejected had no room; and each port
--- accepted all its connections, unless the operator asked the server to end
+-- with its portion of the sessions, that held as many connections of the place's as the system allows, with a view that had
+-- seen that edition; the operator's port was served, if there is an operator; each worker's view may enter what is left;
+-- the totals are the sums of what the workers asked for, each within the budget that its mirror has after the operator's
+-- last connection; what was rejected had no room; and each port accepted all its connections, unless the operator asked the
+-- server to end
 pub record AreTotals (edges : Edges) (place : Place) (service : Service) (kept : Store) (passages : Passages) (totals : List ℕ) : Type 0 where
   pub calls : List (List Call)
   pub operator_calls : List Call
@@ -148,6 +150,7 @@ pub record AreTotals (edges : Edges) (place : Place) (service : Service) (kept :
   pub many : length calls ≡ place.workers
   pub ports : length passages.clients ≡ place.workers
   pub capacity : ℕ
+  pub held : IsCapacity edges place.connections place.workers capacity
   pub served : (worker : ℕ) (c : List Call) (a : List Ask) (p : Passage) → worker < place.workers →
       AreServed edges place (client_terms place capacity worker) (is_single (is_some place.operator) place.workers)
       service.mirrors (fresh service.edition) (slice_index_or calls worker c) (slice_index_or run.asks worker a)

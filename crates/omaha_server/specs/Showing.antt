@@ -1,5 +1,5 @@
 -- The pages of an operator's address, and its status; this project's profile.
-use Rattle.std.specs.Prelude.{◌≡◌, ◌+◌, ◌<◌, ◌≤◌, ⊤, ℕ, true, List, bytes_eq, codes, length, slice_index, Option, Result, Ok, Err}
+use Rattle.std.specs.Prelude.{◌≡◌, ◌+◌, ◌<◌, ◌≤◌, ⊤, ℕ, true, List, bytes_eq, codes, length, map, slice_index, Option, Result, Ok, Err}
 use Rattle.operator_pages.specs.AppSights.{AreSights}
 use Rattle.catalogue.specs.Histories.{History}
 use Rattle.editions.specs.Editions.{content_of}
@@ -13,8 +13,10 @@ use Rattle.operator_pages.specs.Health.{status_string}
 use Rattle.operator_pages.specs.Paths.{page_at}
 use Rattle.operator_pages.specs.declared.publishes.Publish.{Publish}
 use Rattle.operator_pages.specs.declared.shown.Shown.{Shown}
+use Rattle.catalogue.specs.declared.content.App.{App}
 use Rattle.catalogue.specs.declared.mirror.Mirror.{Mirror}
 use Rattle.service_desks.specs.States.{earlier_in}
+use Rattle.tallies.specs.Totals.{IsOfSize}
 use Rattle.omaha_server.specs.Overviews.{Overview}
 use Rattle.omaha_server.specs.declared.circumstances.Circumstances.{Circumstances}
 
@@ -24,8 +26,13 @@ pub record AreGranted (mirrors : List Mirror) (granted : List ℕ) : Type 0 wher
   pub many : length granted ≡ length mirrors
   pub within : (index : ℕ) → index < length granted → slice_index granted index ≤ budget_at mirrors index
 
+-- how many cohorts each app has
+abbrev pub cohort_counts : List App → List ℕ
+cohort_counts apps = map (λ (app : App). length app.cohorts) apps
+
 -- what is shown is the published edition and the mirrors with their present budgets, with what they granted, by a program of
--- that version; and what the operator's calls came to, and whether the server is to end
+-- that version; what the operator's calls came to, and whether the server is to end; and of what the workers counted a number
+-- for each status, each of these mirrors and each cohort of these apps
 pub record IsKnown (version : List ℕ) (overview : Overview) (shown : Shown) : Type 0 where
   pub apps : shown.apps.now ≡ content_of overview.state.history
   pub edition : shown.edition ≡ earlier_in overview.state.store + length overview.state.history
@@ -35,6 +42,7 @@ pub record IsKnown (version : List ℕ) (overview : Overview) (shown : Shown) : 
   pub publishes : shown.publishes.now ≡ overview.publishes
   pub ending : shown.ending ≡ overview.ending
   pub version_is : shown.version.now ≡ version
+  pub totals : IsOfSize (length shown.mirrors.now) (cohort_counts shown.apps.now) shown.totals.now
 
 -- it is what the operator's thread knows, with a history, mirrors and the last publishes
 pub record IsOverview (history : History) (mirrors : List Mirror) (noted : List Publish) (known : Circumstances)

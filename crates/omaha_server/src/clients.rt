@@ -9,6 +9,7 @@ ghost use Rattle.omaha_server.specs.Logging.{those_of};
 ghost use Rattle.omaha_server.specs.Opening.{AreClientTerms, client_terms, clients_listener, portion_at};
 ghost use Rattle.systems.specs.NewPorts.{IsNew};
 
+use crate::ending::CLIENTS;
 use crate::new_port::NewPort;
 use crate::new_sender::NewSender;
 use crate::place::Place;
@@ -127,7 +128,7 @@ fn terms_of(place: &Place, capacity: usize, worker: usize) -> Terms
     ensures { result ≡ client_terms place.now capacity worker }
 {
     Terms {
-        listener: 0,
+        listener: CLIENTS,
         capacity,
         limit: portion_at(place, worker).unwrap_or(u64::MAX),
         message: place.seconds,

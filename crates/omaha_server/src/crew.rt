@@ -84,12 +84,12 @@ fn jobs_of<
     views: Vec<View>,
     senders: Senders,
 ) -> Result<(Vec<Clients<'s, 'a, S, R, P>>, Operating<'s, 'a, S, R, P, K>), Press>
-    requires ports { ArePorts P.terms P.slots P.accepted P.is_over setup.now.place.now ports }
+    requires ports { ArePorts (S.edges setup.now.system.now) P.terms P.slots P.accepted P.is_over setup.now.place.now ports }
     requires many { length views.items ≡ setup.now.place.now.workers }
     requires views { All (λ sight. sight ≡ fresh publishing.press) views.items }
     requires lined { length senders.clients.items ≡ (if is_some setup.now.place.now.log then setup.now.place.now.workers else 0) }
     requires operator { is_some senders.operator ≡ (is_some setup.now.place.now.log && is_some setup.now.place.now.operator) }
-    ensures manned { IfOk result (λ made. IsManned P.terms setup.now made.0.items made.1) }
+    ensures manned { IfOk result (λ made. IsManned (S.edges setup.now.system.now) P.terms setup.now made.0.items made.1) }
     ensures senders { IfOk result (λ made. senders_of (map (λ job. job.lines) made.0.items) made.1.lines
         ≡ senders.clients.items ++ option_to_list senders.operator) }
     ensures press { IfOk result (λ made. made.1.press ≡ publishing.press) }
@@ -136,13 +136,13 @@ pub(crate) fn crew_of<
     views: Vec<View>,
     outlets: &mut Outlets<'p, F>,
 ) -> Result<Crew<'s, 'a, 'p, S, R, P, F, K>, Press>
-    requires ports { ArePorts P.terms P.slots P.accepted P.is_over setup.now.place.now ports }
+    requires ports { ArePorts (S.edges setup.now.system.now) P.terms P.slots P.accepted P.is_over setup.now.place.now ports }
     requires many { length views.items ≡ setup.now.place.now.workers }
     requires views { All (λ sight. sight ≡ fresh publishing.press) views.items }
     requires fit { FitOutlets setup.now.place.now (is_some outlets.old.errors) (is_some outlets.old.file) }
     requires errors { IfSome outlets.old.errors IsUncut }
     requires file { IfSome outlets.old.file IsUncut }
-    ensures manned { IfOk result (λ crew. IsManned P.terms setup.now crew.jobs.items crew.own) }
+    ensures manned { IfOk result (λ crew. IsManned (S.edges setup.now.system.now) P.terms setup.now crew.jobs.items crew.own) }
     ensures opened { IfOk result (λ crew. AreOpened (is_some setup.now.place.now.named)
         (senders_of (map (λ job. job.lines) crew.jobs.items) crew.own.lines)
         (option_map (λ writing. writing.opened.value.items) crew.writings.errors)

@@ -4,10 +4,11 @@ use http_ports::Port;
 use std::sync::atomic::{AtomicBool, AtomicUsize, Ordering};
 use systems::System;
 
-// The number of the clients' listener, and of the operator's.
-const CLIENTS: u64 = 0;
+/// The number of the clients' listener.
+pub(crate) const CLIENTS: u64 = 0;
 
-const OPERATOR: u64 = 1;
+/// The number of the operator's.
+pub(crate) const OPERATOR: u64 = 1;
 
 /// Whether a server was asked to end, and how many workers still serve.
 ///

@@ -63,7 +63,7 @@ fn run_within<
 where
     'a: 's,
     'p: 's,
-    requires manned { IsManned P.terms setup.now jobs.items own.old }
+    requires manned { IsManned (S.edges setup.now.system.now) P.terms setup.now jobs.items own.old }
     requires opened { AreOpened (is_some setup.now.place.now.named) (senders_of (map (λ job. job.lines) jobs.items) own.old.lines)
         (option_map (λ writing. writing.opened.value.items) writings.errors) (option_map (λ writing. writing.opened.value.items) writings.file) }
     ensures ok { IfOk result (λ made. AreTotals (S.edges setup.now.system.now) setup.now.place.now
@@ -107,7 +107,7 @@ fn run_jobs<
     own: &mut Operating<'_, '_, S, R, P, K>,
     writings: Writings<'p, F>,
 ) -> Result<(Run<P>, Option<Page<'p, F>>), ServerError>
-    requires manned { IsManned P.terms setup.now jobs.items own.old }
+    requires manned { IsManned (S.edges setup.now.system.now) P.terms setup.now jobs.items own.old }
     requires opened { AreOpened (is_some setup.now.place.now.named) (senders_of (map (λ job. job.lines) jobs.items) own.old.lines)
         (option_map (λ writing. writing.opened.value.items) writings.errors) (option_map (λ writing. writing.opened.value.items) writings.file) }
     ensures ok { IfOk result (λ made. AreTotals (S.edges setup.now.system.now) setup.now.place.now
@@ -127,7 +127,7 @@ fn run_jobs<
             Result<(Run<P>, Option<Page<'_, F>>), ServerError>,
             &mut Operating<'_, '_, S, R, P, K>,
         )
-            requires manned { IsManned P.terms setup.now jobs.items own.now }
+            requires manned { IsManned (S.edges setup.now.system.now) P.terms setup.now jobs.items own.now }
             requires opened { AreOpened (is_some setup.now.place.now.named) (senders_of (map (λ job. job.lines) jobs.items) own.now.lines)
                 (option_map (λ writing. writing.opened.value.items) writings.errors) (option_map (λ writing. writing.opened.value.items) writings.file) }
             ensures ok { IfOk result.0 (λ made. AreTotals (S.edges setup.entry.now.system.now) setup.entry.now.place.now

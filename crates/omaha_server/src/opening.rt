@@ -4,6 +4,7 @@ ghost use Rattle.std.specs.Prelude.{◌≡◌, ◌⊎◌, ℕ, All, IfErr, IfOk,
 ghost use Rattle.std.specs.Io.KnownBytes.{Appends};
 ghost use Rattle.streams.specs.Writing.{Breaks};
 ghost use Rattle.omaha_server.specs.Opening.{AreClientTerms, IsOperatorsPort, clients_listener, ready_line};
+ghost use Rattle.systems.specs.Capacities.{IsCapacity};
 ghost use Rattle.systems.specs.NewPorts.{IsNew};
 ghost use Rattle.omaha_server.specs.Places.{ArePorts};
 ghost use Rattle.omaha_server.specs.Serving.{IsListening, IsOpen, IsReady, IsLater, Stops};
@@ -35,7 +36,9 @@ fn open_clients<P: Port + Drop, S: System<P>>(
     place: &Place,
 ) -> Result<Vec<P>, ServerError>
     ensures many { IfOk result (λ ports. length ports.items ≡ place.now.workers) }
-    ensures terms { IfOk result (λ ports. (capacity : ℕ) × AreClientTerms place.now capacity (map P.terms ports.items)) }
+    ensures terms { IfOk result (λ ports. (capacity : ℕ)
+        × IsCapacity (S.edges system.now) place.now.connections place.now.workers capacity
+        × AreClientTerms place.now capacity (map P.terms ports.items)) }
     ensures new { IfOk result (λ ports. All (IsNew P.terms P.slots P.accepted P.is_over) ports.items) }
     ensures bound { IfOk result (λ _. (S.edges system.now).listens place.now.address clients_listener) }
     ensures err { IfErr result (λ error. (error ≡ Net) ⊎ (error ≡ Memory)) }
@@ -93,7 +96,7 @@ pub(crate) fn open_place<P: Port + Drop, S: System<P>, O: WriteWhole>(
 ) -> Result<Ports<P>, ServerError>
     requires { (S.edges system.now).folders place.now.packages }
     ensures opened { IfOk result (λ _. IsOpen (S.edges system.now) place.now) }
-    ensures ports { IfOk result (ArePorts P.terms P.slots P.accepted P.is_over place.now) }
+    ensures ports { IfOk result (ArePorts (S.edges system.now) P.terms P.slots P.accepted P.is_over place.now) }
     ensures ready { IfOk result (λ _. IsReady (O.output out.old) (O.output out.new)) }
     ensures err { IfErr result (λ error. IsLater error
         × Stops (S.edges system.now) place.now (O.output out.old) (O.output out.new) error) }

@@ -13,6 +13,7 @@ ghost use Rattle.omaha_server.specs.Overviews.{overview, overview_at};
 ghost use Rattle.service_desks.specs.States.{store};
 
 use crate::checking::Checked;
+use crate::ending::OPERATOR;
 use crate::new_port::NewPort;
 use crate::new_sender::NewSender;
 use crate::place::Place;
@@ -38,7 +39,7 @@ pub(crate) fn operator_terms(place: &Place) -> Terms
     ensures { result ≡ operator_terms place.now }
 {
     Terms {
-        listener: 1,
+        listener: OPERATOR,
         capacity: CONNECTIONS,
         limit: place.edits.unwrap_or(u64::MAX),
         message: place.seconds,

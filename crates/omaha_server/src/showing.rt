@@ -6,9 +6,10 @@ ghost use Rattle.editions.specs.Editions.{content_of};
 ghost use Rattle.http_desks.specs.Calls.{answer_in};
 ghost use Rattle.http_desks.specs.Pages.{page_in};
 ghost use Rattle.omaha_server.specs.Outcomes.{counted_by, followed_in, is_word, outcome_in, outcome_of, reach_in};
-ghost use Rattle.omaha_server.specs.Showing.{AreGranted, IsKnown, ShowsPage, ShowsStatus, IsOverview};
+ghost use Rattle.omaha_server.specs.Showing.{AreGranted, IsKnown, ShowsPage, ShowsStatus, IsOverview, cohort_counts};
 ghost use Rattle.omaha_server.specs.Overviews.{Overview, counted_at, has_more, last_edits, publish_of, published_by, settled_count, with_adopted};
 ghost use Rattle.service_desks.specs.States.{State, earlier_in};
+ghost use Rattle.tallies.specs.Totals.{IsOfSize};
 
 use crate::circumstances::Circumstances;
 use crate::setup::Setup;
@@ -88,6 +89,7 @@ fn funds_of<R: Wait, B: Budgets>(
     ensures seen { IfOk result (λ funds. is_seen ≡ true → AreSights (content_of edition.now) funds.sights.items) }
     ensures mirrors { IfOk result (λ funds. funds.mirrors.items ≡ B.present budgets.old) }
     ensures granted { IfOk result (λ funds. AreGranted (B.present budgets.old) funds.granted.items) }
+    ensures sized { IfOk result (λ funds. IsOfSize (length funds.mirrors.items) (cohort_counts (content_of edition.now)) funds.served.totals) }
     ensures present { B.present budgets.new ≡ B.present budgets.old }
     ensures rises { B.rises budgets.new ≡ B.rises budgets.old }
 {
@@ -111,7 +113,8 @@ fn shown_of<'a>(
     publishes: &'a [Publish],
     circumstances: &Circumstances,
 ) -> Shown<'a>
-    requires { AreGranted funds.now.mirrors.items funds.now.granted.items }
+    requires granted { AreGranted funds.now.mirrors.items funds.now.granted.items }
+    requires sized { IsOfSize (length funds.now.mirrors.items) (cohort_counts (content_of press.now)) funds.now.served.totals }
     ensures sights { result.sights.now ≡ funds.now.sights.items }
     ensures known { (overview : Overview) → IsOverview press.now funds.now.mirrors.items publishes.now circumstances.now overview
         → IsKnown version.now overview result }
@@ -143,6 +146,7 @@ fn page_of<'a>(
     at: &[u8],
 ) -> Result<Option<Page>, Off>
     requires granted { AreGranted funds.now.mirrors.items funds.now.granted.items }
+    requires sized { IsOfSize (length funds.now.mirrors.items) (cohort_counts (content_of press.now)) funds.now.served.totals }
     requires seen { bytes_eq at.now (codes "/") ≡ true → AreSights (content_of press.now) funds.now.sights.items }
     ensures { (overview : Overview) → IsOverview press.now funds.now.mirrors.items publishes.now circumstances.now overview
         → ShowsPage version.now overview at.now (page_in result) }
@@ -163,7 +167,8 @@ fn status_of<'a>(
     publishes: &'a [Publish],
     circumstances: &Circumstances,
 ) -> Result<Answer, Off>
-    requires { AreGranted funds.now.mirrors.items funds.now.granted.items }
+    requires granted { AreGranted funds.now.mirrors.items funds.now.granted.items }
+    requires sized { IsOfSize (length funds.now.mirrors.items) (cohort_counts (content_of press.now)) funds.now.served.totals }
     ensures { (overview : Overview) → IsOverview press.now funds.now.mirrors.items publishes.now circumstances.now overview
         → ShowsStatus version.now overview (answer_in result) }
 {

@@ -1,5 +1,9 @@
 // What a server has served so far, and where.
 
+ghost use Rattle.std.specs.Prelude.{◌≡◌, IfOk};
+ghost use Rattle.omaha_server.specs.Showing.{cohort_counts};
+ghost use Rattle.tallies.specs.Totals.{IsOfSize};
+
 use catalogue::App;
 use std::alloc::{AllocError, Global};
 use std::sync::OnceLock;
@@ -33,7 +37,9 @@ pub(crate) struct Served {
 }
 
 // How many cohorts each app has.
-fn cohorts_of(alloc: Global, apps: &[App]) -> Result<Vec<usize>, AllocError> {
+fn cohorts_of(alloc: Global, apps: &[App]) -> Result<Vec<usize>, AllocError>
+    ensures { IfOk result (λ cohorts. cohorts.items ≡ cohort_counts apps.now) }
+{
     let mut cohorts = Vec::with_capacity(alloc, apps.len())?;
     for app in apps {
         cohorts.push(app.cohorts.as_slice().len())?;
@@ -88,13 +94,16 @@ impl Traffic {
         }
     }
 
+    // rule: Sums of tallies
     /// What was served so far, for so many mirrors and for the apps of a catalogue.
     pub(crate) fn served(
         &self,
         alloc: Global,
         mirrors: usize,
         apps: &[App],
-    ) -> Result<Served, AllocError> {
+    ) -> Result<Served, AllocError>
+        ensures { IfOk result (λ served. IsOfSize mirrors (cohort_counts apps.now) served.totals) }
+    {
         let cohorts = cohorts_of(alloc, apps)?;
         let totals = self.tallies.totals(alloc, mirrors, &cohorts)?;
         let address = self.address(alloc)?;

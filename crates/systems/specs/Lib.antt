@@ -1,3 +1,4 @@
+pub mod Capacities
 pub mod Edges
 pub mod NewPorts
 pub mod Polled

@@ -193,6 +193,7 @@ where
 
     // a size and bytes are those of a file of the folder
     ghost edges = { λ _. record {
+      holds = λ _ _ _. ⊤;
       listens = λ _ _. ⊤;
       folders = λ _. ⊤;
       sizes = λ _. has_size;
@@ -203,8 +204,9 @@ where
     fn capacity(&self, connections: u64, ports: usize) -> usize {
         let ports = (ports as u64).max(1);
         let files = file_limit(self.rt).unwrap_or(1024);
-        let most = connections.min(files.saturating_sub(OTHER_FILES));
-        (most / ports).max(1).min(1 << 20) as usize
+        let allowed = files.saturating_sub(OTHER_FILES) / ports;
+        let share = connections / ports;
+        share.min(allowed).max(1).min(1 << 20) as usize
     }
 
     fn open_ports(&self, address: &str, terms: &[Terms]) -> Result<Vec<MioPort<'a, R>>, OpenError> {

@@ -35,13 +35,16 @@ impl From<AllocError> for OpenError {
 
 /// What a server asks of the system, which has its ports: sockets, or a test's room-in for them.
 pub trait System<P: Port> {
+    ghost use Rattle.systems.specs.Capacities.{IsCapacity};
     ghost use Rattle.systems.specs.Edges.{Edges};
 
-    // what is known of addresses, folders and logs
+    // what is known of connections, addresses, folders and logs
     ghost edges: { Self → Edges };
 
-    /// Returns how many connections each of so many ports may hold, of so many in all: fewer if the system allows fewer.
-    fn capacity(&self, connections: u64, ports: usize) -> usize;
+    /// Returns how many connections each of so many ports may hold, of so many in all: fewer if the system allows fewer, and
+    /// at least one.
+    fn capacity(&self, connections: u64, ports: usize) -> usize
+        ensures { IsCapacity (edges self.now) connections ports result };
 
     // rule: Ports of a server
     /// Binds an address, and opens a port for each of these terms, whose connections are those of the address.

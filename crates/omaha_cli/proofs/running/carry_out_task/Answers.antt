@@ -21,6 +21,8 @@ returns-clause-ends g c =
     let new : Streams = record { input = g.I.ReadWhole.input c.obey-done.new.reader; output = g.W.WriteWhole.output c.obey-done.new.writer } in
     let world : World = record { files = g.R.Disk.file_at c.args.rt.now; storage = g.R.Folders.storage c.args.rt.now; stored = g.H.Stores.found c.args.stores.now; edges = g.S.System.edges c.args.system.now; replies = g.R.Connector.replies c.args.rt.now; operated = g.R.Connector.operated c.args.rt.now; endings = g.R.Connector.endings c.args.rt.now; sights = g.R.Looks.sights c.args.rt.now; output_seen = g.W.Watched.seen c.args.writer.now; errors_seen = g.F.Watched.seen c.args.errors.now } in
     let task : Task = record { command = c.args.invocation.command; manner = c.manner_of-manner.result } in
-    subst (λ (e : Ending). EndsTask world c.args.invocation (Some task) old new e) (sym c.ending_of.ensures)
-    (EndsTask-ending_of world c.args.invocation task old new c.obey-done.result (refl, c.manner_of-manner.ensures)
+    let before = g.F.WriteWhole.output c.args.errors.now in
+    let after = g.F.WriteWhole.output c.obey-done.new.errors in
+    subst (λ (e : Ending). EndsTask world c.args.invocation (Some task) old new before after e) (sym c.ending_of.ensures)
+    (EndsTask-ending_of world c.args.invocation task old new before after c.obey-done.result (refl, c.manner_of-manner.ensures)
     c.obey-done.ensures.does)

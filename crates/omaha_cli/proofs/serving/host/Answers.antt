@@ -1,4 +1,4 @@
-use Rattle.std.proofs.Common.{ℕ, List, Option, Some, None, Result, Ok, Err}
+use Rattle.std.proofs.Common.{◌≡◌, ℕ, Bool, List, [], Option, Some, None, Result, Ok, Err, IfErr, IfOk, is_some, map}
 use Rattle.catalogue.specs.Histories.{History}
 use Rattle.http_ports.specs.Traffic.{Slot}
 use Rattle.http_ports.specs.declared.terms.Terms.{Terms}
@@ -8,8 +8,9 @@ use Rattle.omaha_commands.specs.declared.failure.Failure.{Failure}
 use Rattle.streams.specs.Streams.{Known}
 use Rattle.systems.specs.Edges.{Edges}
 use Rattle.omaha_server.specs.Checks.{IsStockedFor}
-use Rattle.omaha_server.specs.Passages.{passages_in}
-use Rattle.omaha_server.specs.Serving.{IsLogged}
+use Rattle.omaha_server.specs.Logging.{AreLogged, IsLoggedHere}
+use Rattle.omaha_server.specs.Passages.{passages_in, passages_of}
+use Rattle.omaha_server.specs.Serving.{IsEarly, IsLogged}
 use Rattle.omaha_server.specs.declared.error.ServerError.{ServerError}
 use Rattle.omaha_server.specs.declared.place.Place.{Place}
 use Rattle.omaha_server.specs.declared.ports.ServedPorts.{ServedPorts}
@@ -21,6 +22,11 @@ returns-clause-hosted g c = record {
   serves = c.serve-ended.ensures.serves;
   logged = logged_so g.P.Port.terms g.P.Port.slots g.P.Port.accepted c.serve-ended.result
       (g.S.System.edges c.args.system.now) c.args.place.now.log c.serve-ended.ensures.logged;
+  sents = sents_in c.serve-ended.result;
+  replies = replies_so g.P.Port.terms g.P.Port.slots g.P.Port.accepted c.serve-ended.result (is_some c.args.place.now.log)
+      c.serve-ended.ensures.replies;
+  lines = lines_so g.P.Port.terms g.P.Port.slots g.P.Port.accepted c.serve-ended.result c.args.place.now _ _ c.serve-ended.ensures.lines;
+  early = early_so g.P.Port.terms g.P.Port.slots g.P.Port.accepted c.serve-ended.result _ _ c.serve-ended.ensures.early;
   stocked = stocked_so g.P.Port.terms g.P.Port.slots g.P.Port.accepted c.serve-ended.result
       (g.S.System.edges c.args.system.now) c.args.place.now c.args.kept.service.edition _ _ c.serve-ended.ensures.stocked;
   ends = ends_so g.P.Port.terms g.P.Port.slots g.P.Port.accepted c.serve-ended.result c.args.asked.now c.end_of.result c.end_of.ensures;
@@ -50,3 +56,31 @@ returns-clause-hosted g c = record {
     logged_so terms_of slots_of accepted_of (Ok served) edges None logged = logged
     logged_so terms_of slots_of accepted_of (Err error) edges (Some path) logged = logged
     logged_so terms_of slots_of accepted_of (Err error) edges None logged = logged
+
+    -- what was sent to the log for each port, if the server gave them back
+    sents_in : {P : Type 0} → Result (ServedPorts P) ServerError → List (List ℕ)
+    sents_in (Ok served) = map (λ ended. ended.sent) served.log
+    sents_in (Err error) = []
+
+    replies_so :
+        {P : Type 0} (terms_of : P → Terms) (slots_of : P → ℕ → Slot) (accepted_of : P → ℕ) (ended : Result (ServedPorts P) ServerError)
+        (is_logged : Bool) →
+        IfOk ended (λ served. AreLogged is_logged (passages_of terms_of slots_of accepted_of served) (map (λ e. e.sent) served.log)) →
+        IfOk (passages_in terms_of slots_of accepted_of ended) (λ passages. AreLogged is_logged passages (sents_in ended))
+    replies_so terms_of slots_of accepted_of (Ok served) is_logged replies = replies
+    replies_so terms_of slots_of accepted_of (Err error) is_logged replies = replies
+
+    lines_so :
+        {P : Type 0} (terms_of : P → Terms) (slots_of : P → ℕ → Slot) (accepted_of : P → ℕ) (ended : Result (ServedPorts P) ServerError)
+        (place : Place) (before after : Known) →
+        IfOk ended (λ served. IsLoggedHere place (map (λ e. e.sent) served.log) before after) →
+        IfOk (passages_in terms_of slots_of accepted_of ended) (λ _. IsLoggedHere place (sents_in ended) before after)
+    lines_so terms_of slots_of accepted_of (Ok served) place before after lines = lines
+    lines_so terms_of slots_of accepted_of (Err error) place before after lines = lines
+
+    early_so :
+        {P : Type 0} (terms_of : P → Terms) (slots_of : P → ℕ → Slot) (accepted_of : P → ℕ) (ended : Result (ServedPorts P) ServerError)
+        (before after : Known) → IfErr ended (λ error. IsEarly error → after ≡ before) →
+        IfErr (passages_in terms_of slots_of accepted_of ended) (λ error. IsEarly error → after ≡ before)
+    early_so terms_of slots_of accepted_of (Ok served) before after early = early
+    early_so terms_of slots_of accepted_of (Err error) before after early = early

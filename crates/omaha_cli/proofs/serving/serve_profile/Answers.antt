@@ -15,11 +15,11 @@ returns-clause-serves g c = λ input. record {
 }
 
 pub returns-in-Err-clause-serves : goal.returns-in-Err-clause-serves
-returns-in-Err-clause-serves g c = λ input. record { made = Err c.in-Err.failure; begun = c.in-Err.ensures.err; follows = (refl, refl) }
+returns-in-Err-clause-serves g c = λ input. record { made = Err c.in-Err.failure; begun = c.in-Err.ensures.err; follows = (refl, refl, refl) }
 
 pub returns-in_default-clause-serves : goal.returns-in_default-clause-serves
 returns-in_default-clause-serves g c = λ input. record {
   made = Ok (record { service = c.in-Ok.kept.service; first = _; records = _ });
   begun = c.in-Ok.ensures.begins;
-  follows = (inr (inr (refl, refl)), refl);
+  follows = (inr (inr (refl, refl, refl)), refl);
 }
