@@ -45,15 +45,17 @@ pub fn open_at<S: Start>(
 ///
 /// Contracts see the records that it is known to hold, the number of the first one, how many bytes all may have and whether
 /// calls still reach the disk, and nothing of the database. So whoever names this type proves nothing again of the types
-/// below it.
+/// below it. Its end closes the history: the database file then has all records, unless that fails.
 pub struct FileHistory {
     history: History<FileStore<FileFrom<Wary>>>,
 }
 
-// Written out, so that no caller proves again how each part is dropped.
+// The log is copied into the database file, which then has all records without it. If that fails the next open takes the
+// two together, as after a crash.
 impl Drop for FileHistory {
     fn drop(self) {
-        let FileHistory { history: _ } = self;
+        let FileHistory { history } = self;
+        drop(history.close());
     }
 }
 
