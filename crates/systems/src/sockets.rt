@@ -105,14 +105,15 @@ fn may_take<R: Files + Net>(rt: &R, path: &str) -> bool {
     }
 }
 
-// Listens at a path. The socket gets its name once its mode is set.
+// Listens at a path. The socket gets its name once its mode is set. What either name has is left as it is, unless it is a
+// socket that a server left.
 fn bind_path<R: Files + Net + AllocGlobal>(rt: &R, path: &str) -> io::Result<UnixListener> {
-    if !may_take(rt, path) {
-        return Err(io::Error::from(ErrorKind::AddrInUse));
-    }
     let Ok(new) = format!(in rt.alloc(); "{path}.new") else {
         return Err(io::Error::from(ErrorKind::OutOfMemory));
     };
+    if !may_take(rt, path) || !may_take(rt, &new) {
+        return Err(io::Error::from(ErrorKind::AddrInUse));
+    }
     let _ = rt.remove_file(&new);
     let listener = UnixListener::bind(rt, &new)?;
     rt.set_permissions(&new, Permissions::from_mode(SOCKET_MODE))?;
