@@ -104,8 +104,8 @@ Remedy: If it isn't at its target: `omaha certify` lists the releases from which
         "missing",
         "missing
 Found in: a package's line of `check --packages`, `publish --packages`, `serve` and its reply; a file of `describe`.
-There is no file of that name in the folder.
-Usual cause: A package that was not copied, or a misspelled `name`.
+There is no file of that name in the folder; of `serve`, or it can't be opened, or is a link.
+Usual cause: A package that was not copied, a misspelled `name`, or a file that the server's user may not read.
 Remedy: Copy the package into the folder, or correct the profile.
 ",
     ),

@@ -24,7 +24,8 @@ Remedy: Begin the file with `schema = 2`.
         "F3 BadEntry
 Found in: a profile or a script.
 The entry at that path is missing, unknown or of another type.
-Usual cause: A misspelled key, a number in quotes, a key that the table must have, or a `floor` in schema 1.
+Usual cause: A misspelled key, a number in quotes, a key that the table must have, a `floor` in schema 1, or two cohorts
+of an app with one name.
 Remedy: Look at the path: `app[0].release[2].size` is the size of the third release of the first app.
 ",
     ),

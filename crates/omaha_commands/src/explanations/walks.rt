@@ -5,9 +5,9 @@ pub(crate) const WALKS: [(&str, &str); 8] = [
         "U1",
         "U1 Link
 Found in: a walk.
-The server couldn't be reached, or its reply is no whole 200 with one length.
-Usual cause: A misspelled ADDR, no server there, a proxy, or a redirect.
-Remedy: Try `curl -i http://ADDR/`, and give ADDR as HOST:PORT.
+The server or a mirror couldn't be reached, or its reply is no whole 200 with one length.
+Usual cause: A misspelled ADDR or codebase of a mirror, nobody who listens there, a proxy, or a redirect.
+Remedy: Try `curl -i http://ADDR/` and the mirror's codebase, and give ADDR as HOST:PORT.
 ",
     ),
     (
