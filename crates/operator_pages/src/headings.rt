@@ -52,7 +52,7 @@ pub(crate) const STUCK: &str = "<div class=\"wide\"><table class=\"stuck\">
 ";
 
 /// That an app has no stuck clients.
-pub(crate) const NO_STUCK: &str = "<p class=\"note\">No clients are stuck.</p>
+pub(crate) const NO_STUCK: &str = "<p class=\"note\">No clients at a release are stuck.</p>
 ";
 
 /// That stuck clients weren't looked for.
