@@ -6,9 +6,9 @@ runs `rt ci` there, which proves several crates side by side, those first that m
 `crates/omaha/out/omaha`, as after `make test`.
 
 By itself `rt ci` proves no more crates at once than it expects memory for, which is two or three times what they take,
-and then one crate waits for another. So if the toolchain keeps what it has proved, two runs begin: one proves what all others wait
-for, by several processors for each crate, and the other one a crate for each processor, with what the first one leaves.
-A third one does what is left. `--jobs N` is one run with a crate for each of N processors.
+and then one crate waits for another. So if the toolchain keeps what it has proved, there are three runs. The first one
+proves what most crates wait for, by several processors for each crate, the second one a crate for each processor, and the
+third one does what waits for all others. `--jobs N` is one run with a crate for each of N processors.
 
 With --gate it runs the gate, `rt ci` at the top, as `make test` does. What a run has proved and built is noted beside the
 program: by which toolchain, from which files. If all of these are as noted, a later `make install` proves nothing.
@@ -31,7 +31,7 @@ NOTE = BUILT.with_name("made-of")
 # what no program is made of
 APART = shutil.ignore_patterns("out", "must-fail")
 # the crate on which most others wait, and the crates that wait for all others
-FIRST, LAST = "price_cert", ("omaha_cli", PROGRAM)
+FIRST, LAST = "payload_graph", ("omaha_cli", PROGRAM)
 # what the proof of a crate takes at most, but for the largest ones, in kB
 ROOM = 4_000_000
 
@@ -109,22 +109,18 @@ def keeps():
     return "--anew" in helped.stdout
 
 
-def start(room, jobs, names=(), before=()):
-    """Starts `rt ci` in a folder, with one job for each of so many crates at once, or as it chooses."""
+def run(room, jobs, names=()):
+    """Runs `rt ci` in a folder, with one job for each of so many crates at once, or as it chooses; its status."""
     environment = {**os.environ, "RT_JOBS": str(jobs)} if jobs else os.environ
-    return subprocess.Popen([*before, "rt", "ci", *names], cwd=room, env=environment, stdin=subprocess.DEVNULL)
+    return subprocess.run(["rt", "ci", *names], cwd=room, env=environment, stdin=subprocess.DEVNULL, check=False).returncode
 
 
 def prove(room, jobs):
     """Proves and builds the program in a folder; the status of the run that failed, else 0."""
     if jobs or lanes() < 2 or not keeps():
-        return start(room, jobs).wait()
+        return run(room, jobs)
     names = lines_of((room / "crates.txt").read_text(encoding="utf-8"))
-    with start(room, None, [FIRST]) as first:
-        with start(room, lanes(), [it for it in names if it not in LAST], ["nice"]) as others:
-            if first.wait():
-                others.terminate()
-    return first.returncode or others.returncode or start(room, None).wait()
+    return run(room, None, [FIRST]) or run(room, lanes(), [it for it in names if it not in LAST]) or run(room, None)
 
 
 def build(jobs):
