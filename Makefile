@@ -78,7 +78,7 @@ cluster:
 	tests/cluster.py
 
 install:
-	@echo "proves the libraries of the program side by side; about an hour on four processors if nothing is proved yet"
+	@echo "proves the libraries of the program side by side; half an hour to an hour on four processors if nothing is proved yet"
 	packaging/build.py
 	install -d $(DESTDIR)$(PREFIX)/bin
 	install -m 755 crates/omaha/out/omaha $(DESTDIR)$(PREFIX)/bin/omaha

@@ -9,7 +9,7 @@ times a second it reads the clocks of the checks that this has started, and of t
 them in the end: processor minutes for the proofs of libraries, of tests, for the must-fail edits (the first of a crate
 proves the crate again) and for the programs, and the most expensive crates of each. Where other work runs beside it, the
 same checks take more processor time. So do several jobs for one check: unless RT_JOBS is set it is the number of
-processors, by which each check has one job. `make test` leaves it to `rt`, and so ends sooner.
+processors, by which each check has one job, as in `make test` if there is memory.
 
 Processors differ: one took half of another's time for each check. So it first runs `rt selftest`, by which the toolchain
 proves and builds an example of its own, and prints what that took beside the sums. It is the same work for one toolchain

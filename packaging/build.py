@@ -2,16 +2,14 @@
 """Proves and builds the program: packaging/build.py [--jobs N | --gate]
 
 `make install` runs it. It copies the crates that the program is made of, without their mutants, to a new folder, and
-runs `rt ci` there, which proves several crates side by side, those first that most others wait for. The program is then
-`crates/omaha/out/omaha`, as after `make test`.
-
-By itself `rt ci` proves no more crates at once than it expects memory for, which is two or three times what they take,
-and then one crate waits for another. So if the toolchain keeps what it has proved, there are three runs. The first one
-proves what most crates wait for, by several processors for each crate, the second one a crate for each processor, and the
-third one does what waits for all others. `--jobs N` is one run with a crate for each of N processors.
+runs `rt ci` there, which proves several crates side by side, those first that most others wait for. `--jobs` is how many
+processors it uses, else all. The program is then `crates/omaha/out/omaha`, as after `make test`.
 
 With --gate it runs the gate, `rt ci` at the top, as `make test` does. What a run has proved and built is noted beside the
 program: by which toolchain, from which files. If all of these are as noted, a later `make install` proves nothing.
+
+By itself `rt ci` proves no more crates at once than it expects memory for, which is two or three times what they take.
+Here it proves one for each processor, if there is memory for that, or as many as RT_JOBS in the environment says.
 """
 
 import argparse
@@ -30,8 +28,6 @@ BUILT = TOP / "crates" / PROGRAM / "out" / PROGRAM
 NOTE = BUILT.with_name("made-of")
 # what no program is made of
 APART = shutil.ignore_patterns("out", "must-fail")
-# the crate on which most others wait, and the crates that wait for all others
-FIRST, LAST = "payload_graph", ("omaha_cli", PROGRAM)
 # what the proof of a crate takes at most, but for the largest ones, in kB
 ROOM = 4_000_000
 
@@ -87,40 +83,28 @@ def is_built(made_of):
     return BUILT.is_file() and NOTE.is_file() and NOTE.read_text(encoding="utf-8") == noted(made_of)
 
 
+def at_once():
+    """How many crates are proved at once: one for each processor, if there is memory; else None, and `rt ci` chooses."""
+    meminfo = pathlib.Path("/proc/meminfo").read_text(encoding="utf-8")
+    available = int(re.search(r"MemAvailable: *([0-9]+) kB", meminfo)[1])
+    processors = len(os.sched_getaffinity(0))
+    return processors if processors * ROOM <= available else None
+
+
+def run(folder, jobs=None):
+    """Runs `rt ci` in a folder, with so many crates at once; its status."""
+    chosen = jobs or os.environ.get("RT_JOBS") or at_once()
+    environment = {**os.environ, "RT_JOBS": str(chosen)} if chosen else os.environ
+    return subprocess.run(["rt", "ci"], cwd=folder, env=environment, check=False).returncode
+
+
 def gate():
     """Runs the gate, and notes what the program was made of unless that changed meanwhile."""
     made_of = sources()
-    status = subprocess.run(["rt", "ci"], cwd=TOP, check=False).returncode
+    status = run(TOP)
     if status == 0 and sources() == made_of:
         NOTE.write_text(noted(made_of), encoding="utf-8")
     return status
-
-
-def lanes():
-    """How many crates may be proved at once: one for each processor, if there is memory."""
-    meminfo = pathlib.Path("/proc/meminfo").read_text(encoding="utf-8")
-    available = int(re.search(r"MemAvailable: *([0-9]+) kB", meminfo)[1])
-    return min(len(os.sched_getaffinity(0)), available // ROOM)
-
-
-def keeps():
-    """Whether the toolchain's `rt ci` keeps what it has proved for its next run."""
-    helped = subprocess.run(["rt", "help"], stdout=subprocess.PIPE, stderr=subprocess.STDOUT, text=True, check=False)
-    return "--anew" in helped.stdout
-
-
-def run(room, jobs, names=()):
-    """Runs `rt ci` in a folder, with one job for each of so many crates at once, or as it chooses; its status."""
-    environment = {**os.environ, "RT_JOBS": str(jobs)} if jobs else os.environ
-    return subprocess.run(["rt", "ci", *names], cwd=room, env=environment, stdin=subprocess.DEVNULL, check=False).returncode
-
-
-def prove(room, jobs):
-    """Proves and builds the program in a folder; the status of the run that failed, else 0."""
-    if jobs or lanes() < 2 or not keeps():
-        return run(room, jobs)
-    names = lines_of((room / "crates.txt").read_text(encoding="utf-8"))
-    return run(room, None, [FIRST]) or run(room, lanes(), [it for it in names if it not in LAST]) or run(room, None)
 
 
 def build(jobs):
@@ -132,7 +116,7 @@ def build(jobs):
     with tempfile.TemporaryDirectory(prefix="omaha-build-") as folder:
         room = pathlib.Path(folder)
         copy(room)
-        status = prove(room, jobs)
+        status = run(room, jobs)
         if status == 0:
             BUILT.parent.mkdir(exist_ok=True)
             shutil.copy(room / BUILT.relative_to(TOP), BUILT)
