@@ -21,8 +21,6 @@ broken_at-best net rows from row apart is best = ap (broken_rule net rows from) 
 pub broken_at-end : (net : Net) (rows : List Row) → row_at rows net.target ≡ End → broken_at net rows net.target ≡ None
 broken_at-end net rows is = ap (broken_rule net rows net.target) is ∙ unbroken-target net rows
 
-]
-
 -- the same with the row of the target between them
 pub AreUnbroken-around :
     (net : Net) (rows : List Row) (low high : ℕ) → row_at rows net.target ≡ End →
