@@ -1,8 +1,8 @@
 #!/usr/bin/env python3
 """Tests that each wrong body is still one: tests/edits.py
 
-An edit of `mutants/` or of a crate's `must-fail/` replaces lines of a file by others. Each of those lines has to be
-in its file, once, and the new ones have to differ; else the edit says nothing, though nobody tries it. Prints those that
+An edit of `mutants/` or of a crate's `must-fail/` replaces lines of a file by others, one by one. Each of those lines has
+to be in its file, once, and the new ones have to differ; else the edit says nothing, though nobody tries it. Prints those that
 don't apply, and exits with 1 then. It proves nothing: the gate tries those in `must-fail/`, `tests/mutants.py` the others.
 """
 
@@ -36,6 +36,8 @@ def fault_of(edit, crate):
             return f"{name}: no such file"
         text = changed.get(name) or path.read_text(encoding="utf-8")
         lines = old.rstrip("\n")
+        if "\n" in lines or "\n" in new.rstrip("\n"):
+            return f"{name}: a text of several lines, of which the first alone is read"
         if text.count(lines) != 1:
             return f"{name}: {text.count(lines)} times there: {lines.strip()}"
         if new.rstrip("\n") == lines:
