@@ -7,7 +7,7 @@ use Rattle.catalogue.specs.declared.content.App.{App}
 use Rattle.editions.specs.Editions.{content_of}
 use Rattle.catalogue.specs.Histories.{History}
 use Rattle.reviews.specs.Reviews.{AreReviews}
-use Rattle.reviews.specs.Warnings.{warnings_string}
+use Rattle.review_reports.specs.Warnings.{warnings_string}
 use Rattle.reviews.specs.declared.review.TrackReview.{TrackReview}
 use Rattle.service_desks.specs.declared.services.service.Service.{Service}
 use Rattle.omaha_commands.specs.Certificates.{Certifies, Verifies}

@@ -8,13 +8,13 @@ use Rattle.editions.specs.Editions.{Continues, content_of}
 use Rattle.editions.specs.declared.fault.NextError.{NextError}
 use Rattle.editions.specs.declared.fault.NextError.TheVariants as next
 use Rattle.service_desks.specs.declared.services.service.Service.{Service}
-use Rattle.reviews.specs.ChangeLines.{change_string, newly_stuck_total}
-use Rattle.reviews.specs.ChangeObjects.{change_objects}
-use Rattle.reviews.specs.Changes.{changes_of}
-use Rattle.reviews.specs.Objects.{review_objects}
-use Rattle.reviews.specs.ReviewLines.{review_string, stuck_total}
+use Rattle.review_reports.specs.ChangeLines.{change_string, newly_stuck_total}
+use Rattle.review_reports.specs.ChangeObjects.{change_objects}
+use Rattle.review_reports.specs.Changes.{changes_of}
+use Rattle.review_reports.specs.Objects.{review_objects}
+use Rattle.review_reports.specs.ReviewLines.{review_string, stuck_total}
 use Rattle.reviews.specs.Reviews.{AreReviews}
-use Rattle.reviews.specs.declared.change.Change.{Change}
+use Rattle.review_reports.specs.declared.change.Change.{Change}
 use Rattle.reviews.specs.declared.review.TrackReview.{TrackReview}
 use Rattle.omaha_arguments.specs.declared.command.Review.{Review}
 use Rattle.omaha_arguments.specs.declared.command.Source.{Source}

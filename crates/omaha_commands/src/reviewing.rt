@@ -16,10 +16,11 @@ use crate::script_file::read_script_of;
 use catalogue::{Batch, Catalogue};
 use editions::{Edition, NextError};
 use omaha_arguments::{Review, Source};
-use reviews::{
-    Change, Reviewed, TrackReview, changes, newly_stuck_total, review_catalogue, review_later,
-    stuck_total, write_change_objects, write_changes, write_review, write_review_objects,
+use review_reports::{
+    Change, changes, newly_stuck_total, stuck_total, write_change_objects, write_changes,
+    write_review, write_review_objects,
 };
+use reviews::{Reviewed, TrackReview, review_catalogue, review_later};
 use std::alloc::{AllocError, Global};
 use std::thread::Threads;
 use streams::{Disk, WriteWhole};

@@ -5,7 +5,7 @@ use Rattle.catalogue.specs.declared.content.App.{App}
 use Rattle.cohorts.specs.declared.track.Lane.{Lane}
 use Rattle.cohorts.specs.declared.track.Lane.TheVariants as lane
 use Rattle.payload_graph.specs.declared.payload.TrackKey.{TrackKey}
-use Rattle.reviews.specs.Lines.{cohort_name, reason_string, spelled_at}
+use Rattle.reviews.specs.Names.{cohort_name, reason_string, spelled_at}
 use Rattle.reviews.specs.declared.outcome.Outcome.{Outcome}
 use Rattle.reviews.specs.declared.outcome.Outcome.TheVariants.{Here, Next, Stuck}
 use Rattle.reviews.specs.declared.review.TrackReview.{TrackReview}

@@ -1,11 +1,9 @@
 mod ChainLemmas
-mod ChangeLemmas
 mod CopyLemmas
 mod IdleLemmas
 mod LargestLemmas
 mod LiftLemmas
 mod ListLemmas
-mod MemberLemmas
 mod OpenLemmas
 mod PictureChainLemmas
 mod PinLemmas
@@ -13,4 +11,3 @@ mod ReasonLemmas
 mod ReviewLemmas
 mod RouteLemmas
 mod StepLemmas
-mod VersionLemmas

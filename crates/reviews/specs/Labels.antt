@@ -8,7 +8,7 @@ use Rattle.cohorts.specs.declared.track.Lane.{Lane}
 use Rattle.cohorts.specs.declared.track.Lane.TheVariants as lane
 use Rattle.payload_graph.specs.declared.payload.Payload.{Payload}
 use Rattle.payload_graph.specs.declared.payload.Payload.TheVariants.{Full, Differ}
-use Rattle.reviews.specs.Lines.{cohort_name, spelled_at}
+use Rattle.reviews.specs.Names.{cohort_name, spelled_at}
 use Rattle.reviews.specs.declared.pictures.arrows.Arrow.{Arrow}
 use Rattle.reviews.specs.declared.pictures.nodes.Goal.{Goal}
 use Rattle.reviews.specs.declared.pictures.nodes.Node.{Node}

@@ -33,6 +33,12 @@ outcome_by reason quote.Here = Here
 outcome_by reason (quote.Next payload sum) = Next payload sum
 outcome_by reason quote.NoChain = Stuck reason
 
+-- whether the clients are stuck
+abbrev pub is_stuck : Outcome → Bool
+is_stuck Here = false
+is_stuck (Next payload sum) = false
+is_stuck (Stuck reason) = true
+
 -- rule: Outcome of a release
 -- where the clients at a release are: at the target; before a chain of the least sum, with its first payload; or stuck,
 -- for a reason

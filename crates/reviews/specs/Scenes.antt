@@ -7,7 +7,7 @@ use Rattle.catalogue.specs.declared.content.App.{App}
 use Rattle.catalogue.specs.declared.content.Release.{Release}
 use Rattle.payload_graph.specs.declared.payload.Payload.{Payload}
 use Rattle.payload_graph.specs.declared.payload.Payload.TheVariants.{Full, Differ}
-use Rattle.reviews.specs.ReviewLines.{is_stuck}
+use Rattle.reviews.specs.Reviews.{is_stuck}
 use Rattle.reviews.specs.Steps.{release_to}
 use Rattle.reviews.specs.declared.outcome.Outcome.{Outcome}
 use Rattle.reviews.specs.declared.outcome.Outcome.TheVariants.{Here, Next, Stuck}

@@ -1,7 +1,7 @@
 -- Pictures as SVG images: SVG 1.1, and the colours of a light and a dark page by CSS; this project's profile.
 use Rattle.std.specs.Prelude.{ℕ, ◌+◌, ◌-◌, ◌*◌, ◌/◌, ◌%◌, max, nat_lt, if◌then◌else◌, codes, decimal, List, ◌++◌, flat_map, fold, length}
 use Rattle.catalogue.specs.declared.content.App.{App}
-use Rattle.reviews.specs.Lines.{spelled_at}
+use Rattle.reviews.specs.Names.{spelled_at}
 use Rattle.reviews.specs.Escaping.{escaped_string}
 use Rattle.reviews.specs.Labels.{arrow_tip, bytes_of, goals_string, kind_word, label_string, node_tip, pen_string, word_if}
 use Rattle.reviews.specs.declared.pictures.arrows.Arrow.{Arrow}

@@ -8,13 +8,21 @@ ghost use Rattle.reviews.specs.Copies.{AreKept, HasSource, HaveSources};
 ghost use Rattle.reviews.specs.Reviews.{AreReviews, IsTrackReviewAmong};
 ghost use Rattle.reviews.specs.Routes.{flag_at};
 
-use crate::change::Reviewed;
 use crate::review::{TrackReview, review_table};
 use crate::roads::flag_at;
 use catalogue::Catalogue;
 use payload_graph::TrackKey;
 use price_cert::Certified;
 use std::alloc::{AllocError, Global};
+
+/// The reviews of a catalogue's tracks.
+#[derive(Drop)]
+pub struct Reviewed<'a> {
+    /// The catalogue.
+    pub catalogue: &'a Catalogue,
+    /// The reviews of its tracks.
+    pub tracks: &'a [TrackReview],
+}
 
 /// The reviews of a catalogue's tracks after a change.
 pub struct LaterReviews {

@@ -1,7 +1,7 @@
 //! Where the clients at a release are.
 
 ghost use Rattle.std.specs.Prelude.{◌≡◌};
-ghost use Rattle.reviews.specs.Reviews.{outcome_by};
+ghost use Rattle.reviews.specs.Reviews.{is_stuck, outcome_by};
 
 use crate::cause::Reason;
 use payload_graph::Payload;
@@ -21,6 +21,13 @@ pub enum Outcome {
     },
     /// Stuck: no chain leads to the target.
     Stuck(Reason),
+}
+
+/// Whether the clients are stuck.
+pub fn is_stuck(outcome: &Outcome) -> bool
+    ensures { result ≡ is_stuck outcome.now }
+{
+    matches!(outcome, Outcome::Stuck(_))
 }
 
 /// The outcome of a release by its quote, and by its reason if no chain leads from it.

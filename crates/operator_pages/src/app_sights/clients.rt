@@ -2,7 +2,7 @@
 
 ghost use Rattle.std.specs.Prelude.{◌≡◌, IfOk, string_bytes};
 ghost use Rattle.operator_pages.specs.Clients.{clients_string, downgrade_words, held_words, said_of};
-ghost use Rattle.reviews.specs.Lines.{reason_string};
+ghost use Rattle.reviews.specs.Names.{reason_string};
 
 use crate::app_sights::stuck::StuckAt;
 use crate::sights::StuckClients;

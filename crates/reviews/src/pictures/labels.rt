@@ -3,7 +3,7 @@
 ghost use Rattle.std.specs.Prelude.{◌≡◌, ◌++◌, IfOk, OnOk, string_bytes};
 ghost use Rattle.reviews.specs.Labels.{arrow_tip, bytes_of, goal_at, goal_string, goals_string, half_string, held_word, kind_word, label_string, name_of, node_tip, pen_string, word_if};
 
-use crate::line::{cohort_name, spelled_at};
+use crate::names::{cohort_name, spelled_at};
 use crate::pictures::arrows::Arrow;
 use crate::pictures::nodes::{Goal, Node};
 use catalogue::App;

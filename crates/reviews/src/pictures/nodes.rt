@@ -4,9 +4,9 @@ ghost use Rattle.std.specs.Prelude.{◌≡◌, IfOk, filter_map, map};
 ghost use Rattle.std.specs.List.{enumerate_from};
 ghost use Rattle.reviews.specs.Scenes.{aims_at, goal_of, goals_of, has_stuck, is_goal, is_stuck_at, is_stuck_on, node_of, nodes_of};
 
+use crate::outcome::is_stuck;
 use crate::pictures::view::{View, is_shown};
 use crate::review::TrackReview;
-use crate::stuck::is_stuck;
 use catalogue::{App, Release};
 use cohorts::Lane;
 use std::alloc::{AllocError, Global};

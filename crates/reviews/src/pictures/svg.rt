@@ -3,8 +3,8 @@
 ghost use Rattle.std.specs.Prelude.{◌≡◌, ◌++◌, IfOk, OnOk, string_bytes};
 ghost use Rattle.reviews.specs.Svg.{all_arrows_svg, all_nodes_svg, arrow_bytes, arrow_line, arrow_path, arrow_svg, arrow_title, curve_end, curve_start, curve_string, label_element, node_head, node_line, node_svg, node_element, node_title, shape_of, svg_string, tip_title};
 
-use crate::line::spelled_at;
 use crate::markup::escaped;
+use crate::names::spelled_at;
 use crate::pictures::arrows::Arrow;
 use crate::pictures::labels::{
     arrow_tip, bytes_of, goals_string, kind_word, node_tip, pen_string, word_if,

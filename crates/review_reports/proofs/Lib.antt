@@ -1,0 +1,4 @@
+mod ChangeLemmas
+mod CopyLemmas
+mod MemberLemmas
+mod VersionLemmas

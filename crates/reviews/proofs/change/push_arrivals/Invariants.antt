@@ -1,8 +1,0 @@
-use Rattle.std.proofs.Common.{◌≡◌, ◌++◌}
-use Rattle.std.specs.List.{filter_map, range_with_len}
-use Rattle.reviews.specs.Changes.{arrival_at}
-use Rattle.reviews.proofs.change.push_arrivals.Given as goal
-
-abbrev pub invariant-loop-index : goal.invariant-loop-index
-invariant-loop-index l =
-    l.changes.items ≡ l.initial.changes.items ++ filter_map (arrival_at l.before l.after l.new) (range_with_len 0 l.index)

@@ -1,6 +1,0 @@
-use Rattle.std.proofs.Common.{◌≡◌, ◌++◌, take}
-use Rattle.reviews.specs.ChangeObjects.{offer_objects}
-use Rattle.reviews.proofs.change_objects.push_offer_objects.Given as goal
-
-abbrev pub invariant-loop-change : goal.invariant-loop-change
-invariant-loop-change l = l.text.items ≡ l.initial.text.items ++ offer_objects l.catalogue (take l.change-index l.changes)

@@ -1,4 +1,0 @@
-use Rattle.reviews.proofs.change_objects.push_summary.Goals as goal
-
-pub returns : goal.returns
-returns c = rw (← c.release_total.ensures, ← c.capped-releases.ensures, ← c.newly_stuck_total.ensures) c.push_object.ensures

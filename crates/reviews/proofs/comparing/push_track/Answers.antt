@@ -1,9 +1,0 @@
-use Rattle.std.proofs.Common.{arith}
-use Rattle.std.proofs.lemmas.Grind.{common_steps}
-use Rattle.reviews.proofs.comparing.push_track.Goals as goal
-
-pub loop-from-preserved : goal.loop-from-preserved
-loop-from-preserved c = grind (arith, common_steps)
-
-pub returns : goal.returns
-returns c = grind (arith, common_steps)

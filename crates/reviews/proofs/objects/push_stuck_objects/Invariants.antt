@@ -1,6 +1,0 @@
-use Rattle.std.proofs.Common.{◌≡◌, ◌++◌, take}
-use Rattle.reviews.specs.Objects.{stuck_objects}
-use Rattle.reviews.proofs.objects.push_stuck_objects.Given as goal
-
-abbrev pub invariant-loop-one : goal.invariant-loop-one
-invariant-loop-one l = l.text.items ≡ l.initial.text.items ++ stuck_objects l.app l.clients (take l.one-index l.stuck)

@@ -1,9 +1,0 @@
-use Rattle.std.proofs.Common.{◌≡◌, ◌*◌, ◌≤◌, take}
-use Rattle.reviews.specs.ReviewLines.{release_total}
-use Rattle.reviews.proofs.stuck.release_total.Given as goal
-
-abbrev pub invariant-loop-review : goal.invariant-loop-review
-invariant-loop-review l = record {
-  is : l.total ≡ release_total (take l.review-index l.reviews);
-  few : l.total ≤ l.review-index * 18446744073709551616;
-}
