@@ -11,10 +11,12 @@ use Rattle.service_desks.specs.declared.services.service.Service.{Service}
 use Rattle.review_reports.specs.ChangeLines.{change_string, newly_stuck_total}
 use Rattle.review_reports.specs.ChangeObjects.{change_objects}
 use Rattle.review_reports.specs.Changes.{changes_of}
+use Rattle.review_reports.specs.Newcomers.{cut_off_of}
 use Rattle.review_reports.specs.Objects.{review_objects}
 use Rattle.review_reports.specs.ReviewLines.{review_string, stuck_total}
 use Rattle.reviews.specs.Reviews.{AreReviews}
 use Rattle.review_reports.specs.declared.change.Change.{Change}
+use Rattle.review_reports.specs.declared.change.Clients.{Clients}
 use Rattle.reviews.specs.declared.review.TrackReview.{TrackReview}
 use Rattle.omaha_arguments.specs.declared.command.Review.{Review}
 use Rattle.omaha_arguments.specs.declared.command.Source.{Source}
@@ -39,10 +41,10 @@ abbrev pub review_bytes : Review → List App → List TrackReview → List ℕ
 review_bytes asked apps reviews =
     if asked.json then review_objects apps reviews else review_string apps (limit_of asked) reviews
 
--- what is printed of changes
-abbrev pub change_bytes : Review → List App → List TrackReview → List Change → List ℕ
-change_bytes asked apps reviews changes =
-    if asked.json then change_objects apps reviews changes else change_string apps reviews changes
+-- what is printed of changes, and of new clients who are cut off
+abbrev pub change_bytes : Review → List App → List TrackReview → List Change → List Clients → List ℕ
+change_bytes asked apps reviews changes cut_off =
+    if asked.json then change_objects apps reviews changes cut_off else change_string apps reviews changes cut_off
 
 -- the review of an edition is found, and how many releases are stuck
 pub record IsReviewed (asked : Review) (history : History) (findings : Findings) : Type 0 where
@@ -51,16 +53,23 @@ pub record IsReviewed (asked : Review) (history : History) (findings : Findings)
   pub text : findings.text.items ≡ review_bytes asked (content_of history) reviews
   pub verdict : findings.verdict ≡ StuckReleases (stuck_total reviews)
 
--- the review of a change from one edition to another is found, and how many releases are newly stuck
+-- the reviews of two contents are compared: what has changed is found, and how many releases are newly stuck, with the
+-- new clients who are cut off
+pub record IsCompared (asked : Review) (old new : List App) (before after : List TrackReview) (findings : Findings) : Type 0 where
+  pub changes : List Change
+  pub are_changes : changes ≡ changes_of old new before after
+  pub cut_off : List Clients
+  pub are_cut_off : cut_off ≡ cut_off_of old before after
+  pub text : findings.text.items ≡ change_bytes asked new after changes cut_off
+  pub verdict : findings.verdict ≡ StuckReleases (newly_stuck_total changes cut_off)
+
+-- the review of a change from one edition to another is found
 pub record IsReviewedChange (asked : Review) (old new : History) (findings : Findings) : Type 0 where
   pub before : List TrackReview
   pub are_before : AreReviews (content_of old) before
   pub after : List TrackReview
   pub are_after : AreReviews (content_of new) after
-  pub changes : List Change
-  pub are : changes ≡ changes_of (content_of old) (content_of new) before after
-  pub text : findings.text.items ≡ change_bytes asked (content_of new) after changes
-  pub verdict : findings.verdict ≡ StuckReleases (newly_stuck_total changes)
+  pub compared : IsCompared asked (content_of old) (content_of new) before after findings
 
 -- why an edition has no next one, as a failure
 abbrev pub failure_of_next : NextError → Failure

@@ -2,8 +2,8 @@
 
 ghost use Rattle.std.specs.Prelude.{◌≡◌, IfOk, Ok};
 ghost use Rattle.editions.specs.Editions.{content_of};
-ghost use Rattle.omaha_commands.specs.Reviewing.{FindsBy, FindsIn, FindsInBatch, FindsInProfile, FindsNext, FindsReview, FindsWhole, IsReviewed, IsReviewedChange, PrintsReview, Reviews, change_bytes, end_of, failure_of_next, is_masked, limit_of, review_bytes};
-ghost use Rattle.reviews.specs.Copies.{AreKept};
+ghost use Rattle.omaha_commands.specs.Reviewing.{FindsBy, FindsIn, FindsInBatch, FindsInProfile, FindsNext, FindsReview, FindsWhole, IsCompared, IsReviewed, IsReviewedChange, PrintsReview, Reviews, change_bytes, end_of, failure_of_next, is_masked, limit_of, review_bytes};
+ghost use Rattle.reviews.specs.Copies.{AreKept, HaveSources};
 ghost use Rattle.reviews.specs.Reviews.{AreReviews};
 ghost use Rattle.streams.specs.Streams.{Known};
 
@@ -17,8 +17,8 @@ use catalogue::{Batch, Catalogue};
 use editions::{Edition, NextError};
 use omaha_arguments::{Review, Source};
 use review_reports::{
-    Change, changes, newly_stuck_total, stuck_total, write_change_objects, write_changes,
-    write_review, write_review_objects,
+    Change, Clients, changes, cut_off_newcomers, newly_stuck_total, stuck_total,
+    write_change_objects, write_changes, write_review, write_review_objects,
 };
 use reviews::{Reviewed, TrackReview, review_catalogue, review_later};
 use std::alloc::{AllocError, Global};
@@ -33,7 +33,7 @@ const MAX_STUCK: usize = 40;
 /// How a review ends.
 #[derive(Clone, Copy)]
 pub(crate) enum Verdict {
-    /// So many releases are stuck or newly stuck.
+    /// So many releases are stuck, or newly stuck, with new clients who are cut off.
     StuckReleases(u128),
     /// A server sent another reply than the one that was asked for, with this status.
     Declined(u16),
@@ -77,19 +77,20 @@ fn review_bytes(
     }
 }
 
-// What is printed of the changes to the reviews of a later catalogue.
+// What is printed of the changes to the reviews of a later catalogue, and of new clients who are cut off.
 fn change_bytes(
     alloc: Global,
     asked: &Review,
     after: &Reviewed<'_>,
     changes: &[Change],
+    cut_off: &[Clients],
 ) -> Result<Vec<u8>, AllocError>
-    ensures { IfOk result (λ text. text.items ≡ change_bytes asked.now after.now.catalogue.now after.now.tracks.now changes.now) }
+    ensures { IfOk result (λ text. text.items ≡ change_bytes asked.now after.now.catalogue.now after.now.tracks.now changes.now cut_off.now) }
 {
     if asked.json {
-        write_change_objects(alloc, after, changes)
+        write_change_objects(alloc, after, changes, cut_off)
     } else {
-        write_changes(alloc, after, changes)
+        write_changes(alloc, after, changes, cut_off)
     }
 }
 
@@ -101,6 +102,26 @@ fn review_edition(alloc: Global, asked: &Review, edition: &Edition) -> Result<Fi
     Ok(Findings {
         text: review_bytes(alloc, asked, edition.catalogue(), reviews.as_slice())?,
         verdict: Verdict::StuckReleases(stuck_total(reviews.as_slice())),
+    })
+}
+
+// What the reviews of a catalogue and of a later one find, with the sources of the later ones.
+fn compare(
+    alloc: Global,
+    asked: &Review,
+    before: &Reviewed<'_>,
+    after: &Reviewed<'_>,
+    sources: &[Option<usize>],
+) -> Result<Findings, AllocError>
+    requires { HaveSources before.now.catalogue.now after.now.catalogue.now before.now.tracks.now after.now.tracks.now sources.now }
+    ensures { IfOk result (IsCompared asked.now before.now.catalogue.now after.now.catalogue.now before.now.tracks.now after.now.tracks.now) }
+{
+    let changes = changes(alloc, before, after, sources)?;
+    let cut_off = cut_off_newcomers(alloc, before, after.tracks)?;
+    let stuck = newly_stuck_total(changes.as_slice(), cut_off.as_slice());
+    Ok(Findings {
+        text: change_bytes(alloc, asked, after, changes.as_slice(), cut_off.as_slice())?,
+        verdict: Verdict::StuckReleases(stuck),
     })
 }
 
@@ -125,11 +146,7 @@ fn review_change(
         catalogue: after.catalogue(),
         tracks: later.tracks.as_slice(),
     };
-    let changes = changes(alloc, &old, &new, later.sources.as_slice())?;
-    Ok(Findings {
-        text: change_bytes(alloc, asked, &new, changes.as_slice())?,
-        verdict: Verdict::StuckReleases(newly_stuck_total(changes.as_slice()) as u128),
-    })
+    compare(alloc, asked, &old, &new, later.sources.as_slice())
 }
 
 // What the review of a change finds, unless memory runs out.
@@ -304,7 +321,7 @@ fn print_review<W: WriteWhole>(
 /// nothing is printed. Of a server it fails with `Net` if its operator's listener can't be reached or sends no whole
 /// reply. If the server has another edition than the script's base or dumps nothing, its reply is printed, if `shown`
 /// without control characters, and it fails with `Declined`. If the writer fails, a first part is printed. With
-/// `strict` it then fails with how many releases are stuck or newly stuck.
+/// `strict` it then fails with how many releases are stuck or newly stuck, with new clients whom the script cuts off.
 pub fn review_on<R: Disk + Connector + AllocGlobal + Threads + Sync, W: WriteWhole>(
     rt: &R,
     asked: &Review,

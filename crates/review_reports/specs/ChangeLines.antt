@@ -1,5 +1,5 @@
 -- How the review of a change is printed; this project's profile.
-use Rattle.std.specs.Prelude.{ℕ, ◌&&◌, not, Bool, false, if◌then◌else◌, codes, decimal, List, [], ◌++◌, length, nat_lt, slice_get, Option}
+use Rattle.std.specs.Prelude.{ℕ, ◌+◌, ◌&&◌, not, Bool, false, if◌then◌else◌, codes, decimal, List, [], ◌++◌, length, nat_lt, slice_get, Option}
 use Rattle.std.specs.List.{count_by, flat_map}
 use Rattle.std.specs.Option.{option_map_or}
 use Rattle.catalogue.specs.declared.content.App.{App}
@@ -8,6 +8,7 @@ use Rattle.reviews.specs.Names.{spelled_at}
 use Rattle.review_reports.specs.ReviewLines.{totals_string}
 use Rattle.reviews.specs.Reviews.{is_stuck}
 use Rattle.review_reports.specs.declared.change.Change.{Change}
+use Rattle.review_reports.specs.declared.change.Clients.{Clients}
 use Rattle.reviews.specs.declared.review.TrackReview.{TrackReview}
 use Rattle.reviews.specs.declared.outcome.Outcome.{Outcome}
 use Rattle.reviews.specs.declared.outcome.Outcome.TheVariants.{Here, Next, Stuck}
@@ -21,9 +22,9 @@ was_stuck was = option_map_or is_stuck was false
 abbrev pub is_newly_stuck : Change → Bool
 is_newly_stuck change = is_stuck change.becomes && not (was_stuck change.was)
 
--- how many releases are newly stuck
-abbrev pub newly_stuck_total : List Change → ℕ
-newly_stuck_total changes = count_by is_newly_stuck changes
+-- how many releases are newly stuck, and how many new clients are cut off, of one track each
+abbrev pub newly_stuck_total : List Change → List Clients → ℕ
+newly_stuck_total changes cut_off = count_by is_newly_stuck changes + length cut_off
 
 -- how many bytes clients download up to the target; 0 if they are stuck
 abbrev pub bytes_of : Outcome → ℕ
@@ -83,20 +84,33 @@ line_by line apps change = option_map_or (λ (app : App). line app change) (slic
 abbrev pub newly_stuck_lines : List App → List Change → List ℕ
 newly_stuck_lines apps changes = flat_map (line_by newly_stuck_line apps) changes
 
+-- the line of new clients who are cut off
+abbrev pub cut_off_line : App → Clients → List ℕ
+cut_off_line app clients = line_string stuck_word (track_string app clients) (codes "new clients")
+
+-- a line by the app of clients; none if the app isn't there
+abbrev pub line_for : (App → Clients → List ℕ) → List App → Clients → List ℕ
+line_for line apps clients = option_map_or (λ (app : App). line app clients) (slice_get apps clients.app) []
+
+-- the lines of the new clients who are cut off
+abbrev pub cut_off_lines : List App → List Clients → List ℕ
+cut_off_lines apps cut_off = flat_map (line_for cut_off_line apps) cut_off
+
 -- the lines of the other releases
 abbrev pub offer_lines : List App → List Change → List ℕ
 offer_lines apps changes = flat_map (line_by offer_line apps) changes
 
 -- how many tracks there are after the change, how many releases they have, how many have changed, and how many are
--- newly stuck
-abbrev pub change_counts : List TrackReview → List Change → List ℕ
-change_counts reviews changes =
+-- newly stuck, with the new clients
+abbrev pub change_counts : List TrackReview → List Change → List Clients → List ℕ
+change_counts reviews changes cut_off =
     totals_string reviews ++ (codes ", " ++ (decimal (length changes) ++ (codes " changed, "
-    ++ (decimal (newly_stuck_total changes) ++ codes " newly stuck\n"))))
+    ++ (decimal (newly_stuck_total changes cut_off) ++ codes " newly stuck\n"))))
 
 -- rule: Printed change
--- first the newly stuck releases, then the other changed ones, in the order of changes, and the line of counts; by the
--- catalogue after the change and its reviews
-abbrev pub change_string : List App → List TrackReview → List Change → List ℕ
-change_string apps reviews changes =
-    newly_stuck_lines apps changes ++ (offer_lines apps changes ++ change_counts reviews changes)
+-- first the newly stuck releases, then the new clients who are cut off, then the other changed releases, in their orders,
+-- and the line of counts; by the catalogue after the change and its reviews
+abbrev pub change_string : List App → List TrackReview → List Change → List Clients → List ℕ
+change_string apps reviews changes cut_off =
+    newly_stuck_lines apps changes
+    ++ (cut_off_lines apps cut_off ++ (offer_lines apps changes ++ change_counts reviews changes cut_off))

@@ -3,12 +3,13 @@ use Rattle.std.specs.Prelude.{ℕ, if◌then◌else◌, codes, List, [], ◌++�
 use Rattle.std.specs.List.{flat_map}
 use Rattle.serde_json.specs.Data.{Data, boolean, member, no_members, object, string}
 use Rattle.catalogue.specs.declared.content.App.{App}
-use Rattle.review_reports.specs.ChangeLines.{bytes_before, bytes_of, is_newly_stuck, line_by, newly_stuck_total, was_stuck}
+use Rattle.review_reports.specs.ChangeLines.{bytes_before, bytes_of, is_newly_stuck, line_by, line_for, newly_stuck_total, was_stuck}
 use Rattle.review_reports.specs.Lines.{lane_word}
 use Rattle.reviews.specs.Names.{cohort_name, spelled_at}
 use Rattle.review_reports.specs.Objects.{bytes_data, capped, object_line, stuck_data, whole}
 use Rattle.review_reports.specs.ReviewLines.{release_total}
 use Rattle.review_reports.specs.declared.change.Change.{Change}
+use Rattle.review_reports.specs.declared.change.Clients.{Clients}
 use Rattle.reviews.specs.declared.outcome.Outcome.{Outcome}
 use Rattle.reviews.specs.declared.outcome.Outcome.TheVariants.{Here, Next, Stuck}
 use Rattle.reviews.specs.declared.review.TrackReview.{TrackReview}
@@ -62,24 +63,46 @@ offer_object app change = if is_newly_stuck change then [] else object_line (cha
 abbrev pub newly_stuck_objects : List App → List Change → List ℕ
 newly_stuck_objects apps changes = flat_map (line_by newly_stuck_object apps) changes
 
+-- new clients who are cut off: of no version, and for no reason
+abbrev pub cut_off_data : App → Clients → Data
+cut_off_data app clients =
+    object
+    (member (codes "app") (string app.id)
+    (member (codes "cohort") (string (cohort_name app clients.cohort))
+    (member (codes "downgrade") (boolean clients.rollback)
+    (member (codes "kind") (string (codes "newly_stuck"))
+    (member (codes "lane") (string (lane_word clients.lane))
+    no_members)))))
+
+-- their line
+abbrev pub cut_off_object : App → Clients → List ℕ
+cut_off_object app clients = object_line (cut_off_data app clients)
+
+-- the lines of the new clients who are cut off
+abbrev pub cut_off_objects : List App → List Clients → List ℕ
+cut_off_objects apps cut_off = flat_map (line_for cut_off_object apps) cut_off
+
 -- the lines of the other releases
 abbrev pub offer_objects : List App → List Change → List ℕ
 offer_objects apps changes = flat_map (line_by offer_object apps) changes
 
 -- how many tracks there are after the change, how many releases they have, how many have changed, and how many are
--- newly stuck
-abbrev pub change_summary : List TrackReview → List Change → Data
-change_summary reviews changes =
+-- newly stuck, with the new clients
+abbrev pub change_summary : List TrackReview → List Change → List Clients → Data
+change_summary reviews changes cut_off =
     object
     (member (codes "changed") (whole (length changes))
     (member (codes "kind") (string (codes "summary"))
-    (member (codes "newly_stuck") (whole (newly_stuck_total changes))
+    (member (codes "newly_stuck") (whole (capped (newly_stuck_total changes cut_off)))
     (member (codes "releases") (whole (capped (release_total reviews)))
     (member (codes "tracks") (whole (length reviews))
     no_members)))))
 
 -- rule: Change as JSON
--- first the newly stuck releases, then the other changed ones, in the order of changes, and the summary
-abbrev pub change_objects : List App → List TrackReview → List Change → List ℕ
-change_objects apps reviews changes =
-    newly_stuck_objects apps changes ++ (offer_objects apps changes ++ object_line (change_summary reviews changes))
+-- first the newly stuck releases, then the new clients who are cut off, then the other changed releases, in their orders,
+-- and the summary
+abbrev pub change_objects : List App → List TrackReview → List Change → List Clients → List ℕ
+change_objects apps reviews changes cut_off =
+    newly_stuck_objects apps changes
+    ++ (cut_off_objects apps cut_off
+    ++ (offer_objects apps changes ++ object_line (change_summary reviews changes cut_off)))

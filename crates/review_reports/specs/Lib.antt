@@ -3,6 +3,7 @@ pub mod ChangeObjects
 pub mod Changes
 pub mod Lines
 pub mod Members
+pub mod Newcomers
 pub mod Objects
 pub mod ReviewLines
 pub mod Warnings

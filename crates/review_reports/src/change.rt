@@ -207,8 +207,8 @@ pub(crate) fn are_same_clients(
         && (is_served(before, &old.key, rollback) && is_served(after, &new.key, rollback))
 }
 
-// The clients of a track before a change and one after it.
-fn clients_of(old: &TrackKey, new: &TrackKey) -> Clients
+/// The clients of a track before a change and one after it.
+pub(crate) fn clients_of(old: &TrackKey, new: &TrackKey) -> Clients
     ensures { result ≡ clients_of old.now new.now }
 {
     Clients {

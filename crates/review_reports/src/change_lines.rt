@@ -2,9 +2,9 @@
 
 ghost use Rattle.std.specs.Prelude.{◌≡◌, ◌++◌, IfOk, OnOk, string_bytes};
 ghost use Rattle.std.specs.List.{count_by};
-ghost use Rattle.review_reports.specs.ChangeLines.{bytes_before, bytes_of, change_counts, change_facts, change_string, change_word, is_newly_stuck, line_by, newly_stuck_line, newly_stuck_lines, newly_stuck_total, offer_line, offer_lines, outcome_string, size_word, string_before, was_stuck};
+ghost use Rattle.review_reports.specs.ChangeLines.{bytes_before, bytes_of, change_counts, change_facts, change_string, change_word, cut_off_line, cut_off_lines, is_newly_stuck, line_by, line_for, newly_stuck_line, newly_stuck_lines, newly_stuck_total, offer_line, offer_lines, outcome_string, size_word, string_before, was_stuck};
 
-use crate::change::Change;
+use crate::change::{Change, Clients};
 use crate::line::{find_app, push_line, stuck_release, track_string};
 use crate::stuck::totals_string;
 use catalogue::{App, Catalogue};
@@ -29,15 +29,21 @@ pub(crate) fn is_newly_stuck(change: &Change) -> bool
     is_stuck(&change.becomes) && !was_stuck(&change.was)
 }
 
-// rule: Newly stuck
-/// Counts the releases that a change leaves stuck and that were not stuck before it.
-pub fn newly_stuck_total(changes: &[Change]) -> usize
-    ensures { result ≡ newly_stuck_total changes.now }
+fn count_newly_stuck(changes: &[Change]) -> usize
+    ensures { result ≡ count_by is_newly_stuck changes.now }
 {
     changes
         .iter()
         .filter(|change| is_newly_stuck(change))
         .count()
+}
+
+// rule: Newly stuck
+/// Counts the releases that a change leaves stuck and that were not stuck before it, and the new clients whom it cuts off.
+pub fn newly_stuck_total(changes: &[Change], cut_off: &[Clients]) -> u128
+    ensures { result ≡ newly_stuck_total changes.now cut_off.now }
+{
+    count_newly_stuck(changes) as u128 + cut_off.len() as u128
 }
 
 /// How many bytes clients download up to the target, 0 if they are stuck.
@@ -149,6 +155,19 @@ fn push_offer(
     push_line(text, change_word(change), track.as_str(), facts.as_str())
 }
 
+// Adds the line of new clients who are cut off.
+fn push_cut_off(
+    alloc: Global,
+    text: &mut Vec<u8>,
+    app: &App,
+    clients: &Clients,
+) -> Result<(), AllocError>
+    ensures { OnOk result (text.new.items ≡ text.old.items ++ cut_off_line app.now clients.now) }
+{
+    let track = track_string(alloc, app, clients)?;
+    push_line(text, "stuck  ", track.as_str(), "new clients")
+}
+
 fn push_newly_stuck_of(
     alloc: Global,
     text: &mut Vec<u8>,
@@ -177,6 +196,20 @@ fn push_offer_of(
     }
 }
 
+fn push_cut_off_of(
+    alloc: Global,
+    text: &mut Vec<u8>,
+    catalogue: &Catalogue,
+    clients: &Clients,
+) -> Result<(), AllocError>
+    ensures { OnOk result (text.new.items ≡ text.old.items ++ line_for cut_off_line catalogue.now clients.now) }
+{
+    match find_app(catalogue, clients.app) {
+        Some(app) => push_cut_off(alloc, text, app, clients),
+        None => Ok(()),
+    }
+}
+
 fn push_all_newly_stuck(
     alloc: Global,
     text: &mut Vec<u8>,
@@ -187,6 +220,20 @@ fn push_all_newly_stuck(
 {
     for change in changes {
         push_newly_stuck_of(alloc, text, catalogue, change)?;
+    }
+    Ok(())
+}
+
+fn push_all_cut_off(
+    alloc: Global,
+    text: &mut Vec<u8>,
+    catalogue: &Catalogue,
+    cut_off: &[Clients],
+) -> Result<(), AllocError>
+    ensures { OnOk result (text.new.items ≡ text.old.items ++ cut_off_lines catalogue.now cut_off.now) }
+{
+    for clients in cut_off {
+        push_cut_off_of(alloc, text, catalogue, clients)?;
     }
     Ok(())
 }
@@ -209,31 +256,35 @@ fn change_counts(
     alloc: Global,
     reviews: &[TrackReview],
     changes: &[Change],
+    cut_off: &[Clients],
 ) -> Result<String, AllocError>
-    ensures { IfOk result (λ counts. string_bytes counts ≡ change_counts reviews.now changes.now) }
+    ensures { IfOk result (λ counts. string_bytes counts ≡ change_counts reviews.now changes.now cut_off.now) }
 {
     let totals = totals_string(alloc, reviews)?;
     let named = totals.as_str();
     let changed = changes.len();
-    let stuck = newly_stuck_total(changes);
+    let stuck = newly_stuck_total(changes, cut_off);
     format!(in alloc; "{named}, {changed} changed, {stuck} newly stuck\n")
 }
 
 // rule: Printed change
 /// Writes the review of a change, by the catalogue after it.
 ///
-/// Each newly stuck release has a line, then each other changed release, with the bytes before and after. The last line
-/// counts tracks, releases, changed ones and newly stuck ones. Out of memory is the only error.
+/// Each newly stuck release has a line, then the new clients of each track who are cut off, then each other changed
+/// release, with the bytes before and after. The last line counts tracks, releases, changed ones and newly stuck ones,
+/// with the new clients. Out of memory is the only error.
 pub fn write_changes(
     alloc: Global,
     after: &Reviewed<'_>,
     changes: &[Change],
+    cut_off: &[Clients],
 ) -> Result<Vec<u8>, AllocError>
-    ensures { IfOk result (λ text. text.items ≡ change_string after.now.catalogue.now after.now.tracks.now changes.now) }
+    ensures { IfOk result (λ text. text.items ≡ change_string after.now.catalogue.now after.now.tracks.now changes.now cut_off.now) }
 {
-    let counts = change_counts(alloc, after.tracks, changes)?;
+    let counts = change_counts(alloc, after.tracks, changes, cut_off)?;
     let mut text = Vec::new(alloc);
     push_all_newly_stuck(alloc, &mut text, after.catalogue, changes)?;
+    push_all_cut_off(alloc, &mut text, after.catalogue, cut_off)?;
     push_all_offers(alloc, &mut text, after.catalogue, changes)?;
     text.extend_from_slice(counts.as_str().as_bytes())?;
     Ok(text)

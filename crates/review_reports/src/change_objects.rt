@@ -1,11 +1,11 @@
 //! The review of a change as JSON objects, one on each line.
 
 ghost use Rattle.std.specs.Prelude.{◌≡◌, ◌++◌, IfOk, OnOk, option_and_then};
-ghost use Rattle.review_reports.specs.ChangeLines.{line_by};
+ghost use Rattle.review_reports.specs.ChangeLines.{line_by, line_for};
 ghost use Rattle.review_reports.specs.Objects.{object_line};
-ghost use Rattle.review_reports.specs.ChangeObjects.{bytes_if, change_data, change_kind, change_objects, change_summary, newly_stuck_object, newly_stuck_objects, offer_object, offer_objects, size_kind, stuck_object};
+ghost use Rattle.review_reports.specs.ChangeObjects.{bytes_if, change_data, change_kind, change_objects, change_summary, cut_off_object, cut_off_objects, newly_stuck_object, newly_stuck_objects, offer_object, offer_objects, size_kind, stuck_object};
 
-use crate::change::Change;
+use crate::change::{Change, Clients};
 use crate::change_lines::{bytes_before, bytes_of, is_newly_stuck, newly_stuck_total, was_stuck};
 use crate::line::{find_app, lane_word};
 use crate::members::{Member, push_object};
@@ -136,6 +136,25 @@ fn push_offer_object(
     push_change(alloc, text, app, change)
 }
 
+// Adds the line of new clients who are cut off.
+fn push_cut_off_object(
+    alloc: Global,
+    text: &mut Vec<u8>,
+    app: &App,
+    clients: &Clients,
+) -> Result<(), AllocError>
+    ensures { OnOk result (text.new.items ≡ text.old.items ++ cut_off_object app.now clients.now) }
+{
+    let table = [
+        Member::String("app", app.id.as_str()),
+        Member::String("cohort", cohort_name(app, clients.cohort)),
+        Member::Boolean("downgrade", clients.rollback),
+        Member::String("kind", "newly_stuck"),
+        Member::String("lane", lane_word(clients.lane)),
+    ];
+    push_object(alloc, text, &table)
+}
+
 fn push_newly_stuck_object_of(
     alloc: Global,
     text: &mut Vec<u8>,
@@ -164,6 +183,20 @@ fn push_offer_object_of(
     }
 }
 
+fn push_cut_off_object_of(
+    alloc: Global,
+    text: &mut Vec<u8>,
+    catalogue: &Catalogue,
+    clients: &Clients,
+) -> Result<(), AllocError>
+    ensures { OnOk result (text.new.items ≡ text.old.items ++ line_for cut_off_object catalogue.now clients.now) }
+{
+    match find_app(catalogue, clients.app) {
+        Some(app) => push_cut_off_object(alloc, text, app, clients),
+        None => Ok(()),
+    }
+}
+
 fn push_newly_stuck_objects(
     alloc: Global,
     text: &mut Vec<u8>,
@@ -174,6 +207,20 @@ fn push_newly_stuck_objects(
 {
     for change in changes {
         push_newly_stuck_object_of(alloc, text, catalogue, change)?;
+    }
+    Ok(())
+}
+
+fn push_cut_off_objects(
+    alloc: Global,
+    text: &mut Vec<u8>,
+    catalogue: &Catalogue,
+    cut_off: &[Clients],
+) -> Result<(), AllocError>
+    ensures { OnOk result (text.new.items ≡ text.old.items ++ cut_off_objects catalogue.now cut_off.now) }
+{
+    for clients in cut_off {
+        push_cut_off_object_of(alloc, text, catalogue, clients)?;
     }
     Ok(())
 }
@@ -197,14 +244,16 @@ fn push_summary(
     text: &mut Vec<u8>,
     reviews: &[TrackReview],
     changes: &[Change],
+    cut_off: &[Clients],
 ) -> Result<(), AllocError>
-    ensures { OnOk result (text.new.items ≡ text.old.items ++ object_line (change_summary reviews.now changes.now)) }
+    ensures { OnOk result (text.new.items ≡ text.old.items ++ object_line (change_summary reviews.now changes.now cut_off.now)) }
 {
     let releases = capped(release_total(reviews));
+    let stuck = capped(newly_stuck_total(changes, cut_off));
     let table = [
         Member::Whole("changed", changes.len() as u64),
         Member::String("kind", "summary"),
-        Member::Whole("newly_stuck", newly_stuck_total(changes) as u64),
+        Member::Whole("newly_stuck", stuck),
         Member::Whole("releases", releases),
         Member::Whole("tracks", reviews.len() as u64),
     ];
@@ -214,18 +263,21 @@ fn push_summary(
 // rule: Change as JSON
 /// Writes the review of a change as JSON objects, one on each line, by the catalogue after it.
 ///
-/// The `kind` of an object is `newly_stuck`, `larger`, `smaller`, `other`, `freed` or, of the last one, `summary`. Bytes
-/// are `null` of clients who are stuck or weren't there. Out of memory is the only error.
+/// The `kind` of an object is `newly_stuck`, `larger`, `smaller`, `other`, `freed` or, of the last one, `summary`. An
+/// object of new clients who are cut off is `newly_stuck` without a version and a reason. Bytes are `null` of clients who
+/// are stuck or weren't there. Out of memory is the only error.
 pub fn write_change_objects(
     alloc: Global,
     after: &Reviewed<'_>,
     changes: &[Change],
+    cut_off: &[Clients],
 ) -> Result<Vec<u8>, AllocError>
-    ensures { IfOk result (λ text. text.items ≡ change_objects after.now.catalogue.now after.now.tracks.now changes.now) }
+    ensures { IfOk result (λ text. text.items ≡ change_objects after.now.catalogue.now after.now.tracks.now changes.now cut_off.now) }
 {
     let mut text = Vec::new(alloc);
     push_newly_stuck_objects(alloc, &mut text, after.catalogue, changes)?;
+    push_cut_off_objects(alloc, &mut text, after.catalogue, cut_off)?;
     push_offer_objects(alloc, &mut text, after.catalogue, changes)?;
-    push_summary(alloc, &mut text, after.tracks, changes)?;
+    push_summary(alloc, &mut text, after.tracks, changes, cut_off)?;
     Ok(text)
 }

@@ -16,7 +16,8 @@ fn has_next(outcome: &Outcome) -> bool
     matches!(outcome, Outcome::Next { .. })
 }
 
-fn has_no_chain(quote: &Quote) -> bool
+/// Whether no chain leads from a place.
+pub(crate) fn has_no_chain(quote: &Quote) -> bool
     ensures { result ≡ has_no_chain quote.now }
 {
     matches!(quote, Quote::NoChain)

@@ -158,7 +158,7 @@ Remedy: Correct the script, or the edits that were typed, and try again.
         "stuck",
         "stuck N
 Found in: the output of `review --strict`.
-N releases are stuck, or newly stuck by the script: no packages lead their clients to the target.
+N releases are stuck, or newly stuck by the script, with new clients whom it cuts off: nothing leads to the target.
 Usual cause: A withdrawn target, a stone that can't be reached, a floor, or a target below a release.
 Remedy: `omaha review F` prints each of them with its reason, and `omaha review --help` explains the reasons.
 ",
