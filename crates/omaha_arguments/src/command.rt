@@ -315,7 +315,7 @@ pub struct Review {
     pub all: bool,
     /// Whether the review is printed as JSON objects, one on each line, with each stuck release.
     pub json: bool,
-    /// Whether the command fails if a release is stuck or, with a script, newly stuck.
+    /// Whether the command fails if a release is stuck or, with a script, newly stuck, or if it cuts new clients off.
     pub strict: bool,
 }
 

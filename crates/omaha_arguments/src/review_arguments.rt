@@ -26,7 +26,7 @@ const ALL: &str = "Print all stuck releases [default: at most 40 of a track]";
 
 const JSON: &str = "Print a JSON object on each line, with all stuck releases";
 
-const STRICT: &str = "Fail if a release is stuck; with --script, if one is newly stuck";
+const STRICT: &str = "Fail if a release is stuck; with --script, if clients are newly stuck";
 
 const AFTER_REVIEW: &str =
     r#"A release is stuck if no packages lead its clients to the target. Each line names a track by the
@@ -50,24 +50,26 @@ The reason is the first rule without which the release wouldn't be stuck:
 
 With --script it prints only what the script changes; its base is 1, as that of a profile:
   stuck   mini stable target no: 1.0, the target is withdrawn     newly stuck; these come first
+  stuck   mini stable target no: new clients                      so are clients without a release
   larger  mini stable target no: 1.0, 750 bytes to 800 bytes      more bytes up to the target
   smaller mini stable target no: 1.0, 750 bytes to 350 bytes      fewer bytes
   other   mini stable target no: 2.0, 450 bytes to 450 bytes      another first package
   freed   mini stable held yes: 4.0, stuck to 1400 bytes          it was stuck
-  total   4 tracks, 16 releases, 3 changed, 1 newly stuck
+  total   4 tracks, 16 releases, 5 changed, 2 newly stuck
 
 With --json it prints the same facts as objects, without spaces, for jq and other programs:
   {"app":"mini","bytes":1400,"cohort":"stable","downgrade":false,"kind":"new","lane":"held"}
 The kind of an object is track, stuck, largest, longest or new; with --script it is newly_stuck,
 larger, smaller, other or freed, with the bytes before and after. Bytes are null of clients who are
-stuck. The last object's kind is summary, and no stuck release is left out.
+stuck, and new clients have no version. The last object's kind is summary, and no stuck release is
+left out.
 
 With --to it reviews what a running server has published; the base of a script is then the number of
 the server's edition. If it isn't, the server's reply `stale N` is printed, and the status is 1.
 Nothing is published.
 
 With --strict it prints the same, and then `omaha: stuck N` on standard error if N releases are
-stuck or, with --script, newly stuck.
+stuck or, with --script, newly stuck. The new clients of a track count as one.
 
 Exit status: 0 if the review was printed, 1 if --strict found a stuck release or the command failed,
 2 if the arguments are invalid.
