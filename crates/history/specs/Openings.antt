@@ -1,5 +1,5 @@
 -- What an open finds; this project's profile.
-use Rattle.std.specs.Prelude.{◌≡◌, ◌⊎◌, ◌≤◌, ◌^◌, ℕ, List, [], length}
+use Rattle.std.specs.Prelude.{◌≡◌, ◌⊎◌, ◌+◌, ◌≤◌, ◌^◌, ℕ, List, [], length}
 use Rattle.kept_records.specs.declared.record.Record.{Record}
 use Rattle.sqlite.specs.Files.{Finds, file_state, over_files}
 use Rattle.sqlite.specs.Held.{Held, state}
@@ -33,6 +33,12 @@ pub record IsOpenedAt {D : Type 0} {g : Ghosts D} (start : Image) (now : Log (Fi
   pub found : FindsIn start (file_state was)
   pub same : FindsOrMakes over_files was now
   pub keeps : Keeps (file_state now.conn) now.first now.kept
+
+-- rule: Log without its file
+-- a database file of so many bytes is missing or empty, so that an open drops its log, and a log of so many may have
+-- records: it has its header of 32 bytes, and one of 24 before what it has of a page
+abbrev pub IsParted : ℕ → ℕ → Type 0
+IsParted file log = (file ≡ 0) × (32 + 24 ≤ log)
 
 -- rule: Closed history
 -- the next open of the files finds the records that the history kept

@@ -17,6 +17,7 @@ mod history;
 pub mod laws;
 mod marks;
 mod opening;
+mod parting;
 mod reading;
 mod refilling;
 mod schema;

@@ -14,6 +14,7 @@ ghost use Rattle.history.specs.Openings.{IsOpenedAt};
 use crate::appending::Change;
 use crate::history::History;
 use crate::opening::take_opened;
+use crate::parting::check_parted;
 use kept_records::{AppendFault, Cause, Kind, OpenFault, ReadFault, Record, Records, Stores};
 use sqlite::{Connection, FileFrom, FileStore, Start, Wary};
 use std::alloc::Global;
@@ -25,6 +26,9 @@ use std::rt::HostRuntime;
 ///
 /// The file has a log beside it, whose name is the path and `-wal`: the two belong together. `start` says what contracts
 /// suppose of the files before; a program passes `Wary`, which syncs each commit twice.
+///
+/// Fails with `Parted` if the file is missing or empty and its log may have records, which an open would drop; then nothing is
+/// opened, made or written.
 pub fn open_at<S: Start>(
     rt: &HostRuntime,
     path: &str,
@@ -34,11 +38,14 @@ pub fn open_at<S: Start>(
     ensures known { IfOk result (λ opened. IsKnown opened.0 opened.1.items limit) }
     ensures opened { IfOk result (λ opened. HasCleanDisk (file_state opened.0.conn) → IsOpenedAt (image_at S.Start) opened.0) }
 {
-    take_opened(
-        rt.alloc(),
-        Connection::open_from(rt, path, false, start),
-        limit,
-    )
+    match check_parted(rt, path) {
+        Ok(()) => take_opened(
+            rt.alloc(),
+            Connection::open_from(rt, path, false, start),
+            limit,
+        ),
+        Err(fault) => Err(fault),
+    }
 }
 
 /// A history in a file of the system.

@@ -71,6 +71,9 @@ pub enum OpenFault {
     /// There is no such folder, no permission, or no regular file of the name.
     #[error("it cannot be opened")]
     Unopened,
+    /// There is a log with records, and the file that it belongs to is missing or empty.
+    #[error("it has a log, but its file is missing or empty")]
+    Parted,
     /// A call failed.
     #[error("{0}")]
     Failed(Cause),

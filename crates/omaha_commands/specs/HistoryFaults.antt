@@ -25,6 +25,8 @@ abbrev pub history_fault_string : HistoryFault → List ℕ
 history_fault_string (fault.Open open_fault.Foreign) = codes "not a history"
 history_fault_string (fault.Open open_fault.Busy) = codes "in use by another program"
 history_fault_string (fault.Open open_fault.Unopened) = codes "cannot be opened"
+history_fault_string (fault.Open open_fault.Parted) =
+    codes "has a log, but its file is missing or empty: put the file back, or move the log away"
 history_fault_string (fault.Open (open_fault.Failed reason)) = cause_string reason
 history_fault_string (fault.Append append.Taken) = codes "another program has added a record"
 history_fault_string (fault.Append append.Full) = codes "full"

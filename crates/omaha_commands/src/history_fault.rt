@@ -64,6 +64,9 @@ impl fmt::Display for HistoryFault {
             HistoryFault::Open(OpenFault::Foreign) => f.write_str("not a history"),
             HistoryFault::Open(OpenFault::Busy) => f.write_str("in use by another program"),
             HistoryFault::Open(OpenFault::Unopened) => f.write_str("cannot be opened"),
+            HistoryFault::Open(OpenFault::Parted) => f.write_str(
+                "has a log, but its file is missing or empty: put the file back, or move the log away",
+            ),
             HistoryFault::Open(OpenFault::Failed(cause)) => f.write_str(cause_string(*cause)),
             HistoryFault::Append(AppendFault::Taken) => {
                 f.write_str("another program has added a record")

@@ -213,14 +213,28 @@ fn begin_from<R: Disk + AllocGlobal + Threads + Sync, K: Records + Drop>(
     }
 }
 
-/// Whether there is a regular file at a path that can be read, or the path is one of etcd's. An open makes the file that
-/// isn't there.
+// How many bytes a log without records may have: fewer than its header and that of its first page.
+const MAX_EMPTY_LOG: u32 = 55;
+
+// Whether there is a log beside a path that may have records.
+fn has_log<R: Disk + AllocGlobal>(rt: &R, path: &str) -> bool {
+    let Ok(log) = format!(in rt.alloc(); "{path}-wal") else {
+        return false;
+    };
+    match rt.read_file(rt.alloc(), log.as_str(), MAX_EMPTY_LOG) {
+        Err(ReadFailure::TooLong) => true,
+        _ => false,
+    }
+}
+
+/// Whether there is a regular file at a path that can be read, or a log of one that may have records, or the path is one of
+/// etcd's. An open makes the file that isn't there, unless there is such a log.
 pub(crate) fn is_there<R: Disk + AllocGlobal>(rt: &R, path: &Text) -> bool {
     if is_etcd_path(path.as_str()) {
         return true;
     }
     match rt.read_file(rt.alloc(), path.as_str(), 0) {
-        Err(ReadFailure::Broken) => false,
+        Err(ReadFailure::Broken) => has_log(rt, path.as_str()),
         _ => true,
     }
 }

@@ -8,8 +8,8 @@ use Rattle.history.proofs.stores.open_at.Goals as goal
 pub take_opened-requires : goal.take_opened-requires
 take_opened-requires g c = IfOk-weaker c.open_from.result _ _ (λ conn opened clean. (opened clean).0) c.open_from.ensures.opened
 
-pub returns-clause-opened : goal.returns-clause-opened
-returns-clause-opened g c = IfOk-weaker c.take_opened.result _ _ (λ taken made clean.
+pub returns-in-Ok-clause-opened : goal.returns-in-Ok-clause-opened
+returns-in-Ok-clause-opened g c = IfOk-weaker c.take_opened.result _ _ (λ taken made clean.
     let was = made clean in
     record {
       was = was.0;
