@@ -8,6 +8,7 @@
 #![tactic(auto)]
 
 mod mio_ports;
+mod socket_files;
 mod sockets;
 mod system;
 

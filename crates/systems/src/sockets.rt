@@ -4,18 +4,18 @@ ghost use Rattle.std.specs.Prelude.{◌≡◌, All, IfOk, map};
 ghost use Rattle.systems.specs.Sockets.{IsNewSocketPort};
 
 use crate::mio_ports::{EndSign, Listener, MioPort};
+use crate::socket_files::{SocketFile, bind_path};
 use crate::system::{OpenError, System};
 use http_desks::{Desk, Packages};
 use http_devices::Folder;
 use http_ports::{Port, Terms, WatchEach};
 use http_sessions::{Connections, serve_port};
 use std::alloc::{AllocError, Global};
-use std::fs::{File, OpenOptions, Permissions};
+use std::fs::{File, Metadata, OpenOptions};
 use std::io;
 use std::io::ErrorKind;
 use std::net::{Net, TcpListener, TcpStream};
-use std::os::unix::fs::{FileTypeExt, PermissionsExt};
-use std::os::unix::net::{UnixListener, UnixStream};
+use std::os::unix::fs::FileTypeExt;
 use std::rt::Files;
 use std::sync::{Arc, Wait};
 use std::time::Clock;
@@ -24,9 +24,6 @@ use streams::Disk;
 // How many files a server opens beside its connections: standard streams, the log, and for each worker what watches its
 // sockets and a package.
 const OTHER_FILES: u64 = 48;
-
-// The mode of the file of a socket: its owner and its group may connect.
-const SOCKET_MODE: u32 = 0o660;
 
 /// A runtime's file, of which a log can be made.
 pub trait LogFile {
@@ -40,20 +37,24 @@ impl LogFile for File {
     }
 }
 
-/// Whether ports are asked to end, by the number of their listener.
+/// How ports end, by the number of their listener: whether they are asked to, and which files their sockets leave.
 #[derive(Drop)]
 pub struct EndSigns {
     clients: EndSign,
     operator: EndSign,
+    clients_file: SocketFile,
+    operator_file: SocketFile,
 }
 
 impl EndSigns {
-    /// No port is asked to end. The operator's listener stays bound until its port is gone, so that whoever waits for the
-    /// end of a server sees it there.
+    /// No port is asked to end, and there is no socket. The operator's listener stays bound until its port is gone, so that
+    /// whoever waits for the end of a server sees it there.
     pub fn new() -> EndSigns {
         EndSigns {
             clients: EndSign::new(false),
             operator: EndSign::new(true),
+            clients_file: SocketFile::new(),
+            operator_file: SocketFile::new(),
         }
     }
 
@@ -65,6 +66,20 @@ impl EndSigns {
             &self.operator
         }
     }
+
+    // What keeps the file of the socket of a listener's number.
+    fn file(&self, listener: u64) -> &SocketFile {
+        if listener == 0 {
+            &self.clients_file
+        } else {
+            &self.operator_file
+        }
+    }
+
+    // Whether a file is that of a socket that was bound here.
+    fn has_file(&self, found: &Metadata) -> bool {
+        self.clients_file.is_of(found) || self.operator_file.is_of(found)
+    }
 }
 
 /// The sockets, files and clock of a runtime, as a server's system.
@@ -72,7 +87,7 @@ impl EndSigns {
 pub struct Sockets<'a, R> {
     /// The runtime.
     pub rt: &'a R,
-    /// Whether its ports are asked to end: those of the listener 0, and all others.
+    /// How its ports end: those of the listener 0, and all others.
     pub signs: &'a EndSigns,
 }
 
@@ -89,45 +104,14 @@ fn file_limit<R: Disk + AllocGlobal>(rt: &R) -> Option<u64> {
     text.lines().find_map(limit_in)
 }
 
-// Whether nobody listens at a socket any more.
-fn is_left_over<R: Net>(rt: &R, path: &str) -> bool {
-    match UnixStream::connect(rt, path) {
-        Ok(_) => false,
-        Err(error) => error.kind() == ErrorKind::ConnectionRefused,
-    }
-}
-
-// Whether a listener may take a path: there is nothing, or a socket that a server left.
-fn may_take<R: Files + Net>(rt: &R, path: &str) -> bool {
-    match rt.symlink_metadata(path) {
-        Ok(found) => found.file_type().is_socket() && is_left_over(rt, path),
-        Err(error) => error.kind() == ErrorKind::NotFound,
-    }
-}
-
-// Listens at a path. The socket gets its name once its mode is set. What either name has is left as it is, unless it is a
-// socket that a server left.
-fn bind_path<R: Files + Net + AllocGlobal>(rt: &R, path: &str) -> io::Result<UnixListener> {
-    let Ok(new) = format!(in rt.alloc(); "{path}.new") else {
-        return Err(io::Error::from(ErrorKind::OutOfMemory));
-    };
-    if !may_take(rt, path) || !may_take(rt, &new) {
-        return Err(io::Error::from(ErrorKind::AddrInUse));
-    }
-    let _ = rt.remove_file(&new);
-    let listener = UnixListener::bind(rt, &new)?;
-    rt.set_permissions(&new, Permissions::from_mode(SOCKET_MODE))?;
-    rt.rename(&new, path)?;
-    Ok(listener)
-}
-
-// Binds an address, or a path after `unix:`.
+// Binds an address, or a path after `unix:`, and keeps which file the socket there has.
 fn bind<R: Net<Listener = TcpListener, Stream = TcpStream> + Files + AllocGlobal>(
     rt: &R,
     address: &str,
+    file: &SocketFile,
 ) -> io::Result<Listener> {
     let listener = match address.strip_prefix("unix:") {
-        Some(path) => Listener::Unix(bind_path(rt, path)?),
+        Some(path) => Listener::Unix(bind_path(rt, path, file)?),
         None => Listener::Tcp(TcpListener::bind(rt, address)?),
     };
     listener.set_nonblocking(true)?;
@@ -211,7 +195,11 @@ where
     }
 
     fn open_ports(&self, address: &str, terms: &[Terms]) -> Result<Vec<MioPort<'a, R>>, OpenError> {
-        let Ok(listener) = bind(self.rt, address) else {
+        let number = match terms.first() {
+            Some(first) => first.listener,
+            None => 0,
+        };
+        let Ok(listener) = bind(self.rt, address, self.signs.file(number)) else {
             return Err(OpenError::Net);
         };
         let Ok(listener) = Arc::new(self.rt.alloc(), listener) else {
@@ -237,8 +225,13 @@ where
     }
 
     fn close_address(&self, address: &str) {
-        if let Some(path) = address.strip_prefix("unix:") {
-            let _ = self.rt.remove_file(path);
+        let Some(path) = address.strip_prefix("unix:") else {
+            return;
+        };
+        if let Ok(found) = self.rt.symlink_metadata(path) {
+            if self.signs.has_file(&found) {
+                let _ = self.rt.remove_file(path);
+            }
         }
     }
 

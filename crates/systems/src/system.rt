@@ -63,7 +63,8 @@ pub trait System<P: Port> {
     /// wait for the first byte of a message, and serve the others until their last reply is sent.
     fn end_ports(&self, _listener: u64) {}
 
-    /// Lets go what an address has in the system once its ports are closed: the socket at a path.
+    /// Lets go what an address has in the system once its ports are closed: the socket at a path, and no other file that is
+    /// there by then.
     fn close_address(&self, _address: &str) {}
 
     /// Opens the file at a path for lines at its end, and makes it if there is none.
