@@ -1,10 +1,11 @@
 -- Which table and which key the path of a fault names, and on which lines they are; this project's profile.
-use Rattle.std.specs.Prelude.{ℕ, ◌+◌, ◌==◌, Bool, List, [], codes, drop, Option, Some, None, option_map}
+use Rattle.std.specs.Prelude.{ℕ, ◌+◌, ◌==◌, Bool, List, [], codes, drop, length, take, unwrap_or, Option, Some, None, option_map}
 use Rattle.std.specs.List.{after_first, before_first}
 use Rattle.omaha_arguments.specs.Options.{number_of}
 use Rattle.advice.specs.Places.{Found, header_after, key_after}
 use Rattle.advice.specs.Tables.{header_of, inner_kind, outer_kind}
 use Rattle.advice.specs.declared.tables.Kind.{Kind}
+use Rattle.advice.specs.declared.tables.Kind.TheVariants as kind
 use Rattle.advice.specs.declared.spots.PathStep.{PathStep}
 use Rattle.advice.specs.declared.spots.TableSpot.{TableSpot}
 
@@ -57,10 +58,14 @@ spot_seen spot = record { kind = spot.kind; first = spot.first; key = spot.key.n
 abbrev pub first_in : List (List ℕ) → Kind → ℕ → ℕ → Option ℕ
 first_in lines of index from = option_map (λ at. at + 1) (header_after (header_of of) from index (drop from lines))
 
--- the same from a line on that may be unknown
+-- the index of the next app's header from a line on, else how many lines there are
+abbrev pub app_end : List (List ℕ) → ℕ → ℕ
+app_end lines from = unwrap_or (header_after (header_of kind.App) from 0 (drop from lines)) (length lines)
+
+-- the same before the next app's header, from a line on that may be unknown
 abbrev pub first_below : List (List ℕ) → Kind → ℕ → Option ℕ → Option ℕ
 first_below lines of index None = None
-first_below lines of index (Some from) = first_in lines of index from
+first_below lines of index (Some from) = first_in (take (app_end lines from) lines) of index from
 
 -- a table in a table of an app, or the table itself
 abbrev pub spot_below : List (List ℕ) → Kind → Option ℕ → Step → Option Kind → Spot

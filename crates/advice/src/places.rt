@@ -66,6 +66,7 @@ pub(crate) fn header_from(
 ) -> Option<usize>
     requires { from ≤ length lines.now }
     ensures found { result ≡ header_after header.now from skipped (map (λ line. line.now) (drop from lines.now)) }
+    ensures after { IfSome result (λ index. from ≤ index) }
     ensures within { IfSome result (λ index. index < length lines.now) }
 {
     let mut left = skipped;

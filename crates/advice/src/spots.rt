@@ -2,7 +2,7 @@
 
 ghost use Rattle.std.specs.Prelude.{◌≡◌, ◌≤◌, IfSome, codes, length, map, option_map, Some};
 ghost use Rattle.std.specs.List.{after_first, before_first};
-ghost use Rattle.advice.specs.Spots.{first_below, first_in, found_at, found_from, is_close, is_dot, is_open, spot_at, spot_below, spot_by, spot_in, spot_of, spot_seen, step_of, step_seen, verb_at, verb_found};
+ghost use Rattle.advice.specs.Spots.{app_end, first_below, first_in, found_at, found_from, is_close, is_dot, is_open, spot_at, spot_below, spot_by, spot_in, spot_of, spot_seen, step_of, step_seen, verb_at, verb_found};
 ghost use Rattle.advice.specs.Places.{found_seen};
 ghost use Rattle.advice.specs.Tables.{inner_kind, outer_kind};
 
@@ -86,13 +86,29 @@ pub(crate) fn first_in(lines: &[&str], of: Kind, index: usize, from: usize) -> O
     }
 }
 
+// The index of the next app's header from a line on, else how many lines there are.
+#[tactic(auto, using(crate::proofs::PlaceLemmas::header_dropped, crate::proofs::PlaceLemmas::lines_counted))]
+fn app_end(lines: &[&str], from: usize) -> usize
+    requires { from ≤ length lines.now }
+    ensures is { result ≡ app_end (map (λ line. line.now) lines.now) from }
+    ensures after { from ≤ result }
+    ensures within { result ≤ length lines.now }
+{
+    match header_from(lines, header_of(Kind::App), from, 0) {
+        Some(at) => at,
+        None => lines.len(),
+    }
+}
+
+// The index of the line after the header of a table of an app, before the next app's header.
+#[tactic(auto, using(crate::proofs::PlaceLemmas::lines_taken))]
 fn first_below(lines: &[&str], of: Kind, index: usize, from: Option<usize>) -> Option<usize>
     requires { IfSome from (λ at. at ≤ length lines.now) }
     ensures is { result ≡ first_below (map (λ line. line.now) lines.now) of index from }
     ensures within { IfSome result (λ at. at ≤ length lines.now) }
 {
     match from {
-        Some(from) => first_in(lines, of, index, from),
+        Some(from) => first_in(&lines[..app_end(lines, from)], of, index, from),
         None => None,
     }
 }
