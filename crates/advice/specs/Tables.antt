@@ -1,5 +1,5 @@
 -- The tables of profiles and scripts: their headers, their keys and what a key holds; this project's profile.
-use Rattle.std.specs.Prelude.{ℕ, ◌==◌, Bool, true, false, List, [], ◌∷◌, codes, unwrap_or, Option}
+use Rattle.std.specs.Prelude.{ℕ, ◌==◌, Bool, true, false, if◌then◌else◌, List, [], ◌∷◌, codes, unwrap_or, Option, Some, None}
 use Rattle.std.specs.List.{list_any, slice_split}
 use Rattle.std.specs.Map.{lookup}
 use Rattle.std.specs.Str.{bytes_eq}
@@ -112,7 +112,15 @@ abbrev pub form_by : Bool → List ℕ → List ℕ
 form_by true key = codes "one table after the other, each below its own [[..]]"
 form_by false key = unwrap_or (lookup (bytes_eq key) forms) (codes "a string in quotes")
 
+-- what a key of a table of a kind holds if not each string will do
+abbrev pub strict_form : Kind → List ℕ → Option (List ℕ)
+strict_form kind.Cohort key =
+    if bytes_eq key (codes "name") then Some (codes "a name in quotes that no other cohort of the app has") else None
+strict_form kind.Release key =
+    if bytes_eq key (codes "floor") then Some (codes "a version in quotes, and schema = 2 at the top: schema 1 has no floors") else None
+strict_form other key = None
+
 -- rule: Form of a key
 -- what a key of a table holds
 abbrev pub form_of : Kind → List ℕ → List ℕ
-form_of kind key = form_by (holds_tables kind key) key
+form_of kind key = unwrap_or (strict_form kind key) (form_by (holds_tables kind key) key)

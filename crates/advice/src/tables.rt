@@ -1,8 +1,8 @@
 //! The tables of profiles and scripts.
 
-ghost use Rattle.std.specs.Prelude.{◌≡◌, IfOk, map};
+ghost use Rattle.std.specs.Prelude.{◌≡◌, IfOk, map, option_map};
 ghost use Rattle.advice.specs.declared.tables.Kind.TheVariants as kind;
-ghost use Rattle.advice.specs.Tables.{form_by, form_of, header_of, holds_tables, inner_kind, keys_of, kind_words, outer_kind, words_of};
+ghost use Rattle.advice.specs.Tables.{form_by, form_of, header_of, holds_tables, inner_kind, keys_of, kind_words, outer_kind, strict_form, words_of};
 
 use std::alloc::{AllocError, Global};
 
@@ -154,10 +154,28 @@ fn form_by(tables: bool, key: &str) -> &'static str
     }
 }
 
+// What a key holds if not each string will do.
+fn strict_form(kind: Kind, key: &str) -> Option<&'static str>
+    ensures { option_map (λ form. form.now) result ≡ strict_form kind key.now }
+{
+    match kind {
+        Kind::Cohort if key == "name" => Some(
+            "a name in quotes that no other cohort of the app has",
+        ),
+        Kind::Release if key == "floor" => {
+            Some("a version in quotes, and schema = 2 at the top: schema 1 has no floors")
+        }
+        _ => None,
+    }
+}
+
 // rule: Form of a key
 /// What a key of a table holds.
 pub(crate) fn form_of(kind: Kind, key: &str) -> &'static str
     ensures { result.now ≡ form_of kind key.now }
 {
-    form_by(holds_tables(kind, key), key)
+    match strict_form(kind, key) {
+        Some(form) => form,
+        None => form_by(holds_tables(kind, key), key),
+    }
 }
