@@ -4,7 +4,8 @@ use Rattle.std.specs.Char.{is_ascii_digit, is_ascii_lowercase}
 use Rattle.std.specs.List.{ends_with, list_all, starts_with}
 use Rattle.streams.specs.Strings.{shown_string}
 use Rattle.advice.specs.Entries.{place_string}
-use Rattle.advice.specs.Spots.{first_in, found_from, verb_found}
+use Rattle.advice.specs.Places.{has_apostrophe, has_quote, string_in}
+use Rattle.advice.specs.Spots.{first_in, found_from, value_found}
 use Rattle.advice.specs.declared.tables.Kind.TheVariants as kind
 use Rattle.advice.specs.declared.faults.MirrorFault.{MirrorFault}
 use Rattle.advice.specs.declared.faults.MirrorFault.TheVariants as mirror
@@ -44,23 +45,30 @@ abbrev pub count_advice : List ℕ → List ℕ
 count_advice file =
     place_string file None ++ codes "a script has at most 4096 edits: publish the others by a second one (omaha explain F5)"
 
--- a value in quotes that begins with `http://` and ends with `/`, or nothing
-abbrev pub is_codebase : List ℕ → Bool
-is_codebase value =
-    (length value == 0) || (starts_with nat_eq value (codes "\"http://") && ends_with nat_eq value (codes "/\""))
+-- a value is a string
+abbrev pub is_string : List ℕ → Bool
+is_string value = has_quote value || has_apostrophe value
 
--- a byte of a name in quotes
+-- a string begins with `http://` and ends with `/`
+abbrev pub is_base : List ℕ → Bool
+is_base string = starts_with nat_eq string (codes "http://") && ends_with nat_eq string (codes "/")
+
+-- a value is no string, or one such
+abbrev pub is_codebase : List ℕ → Bool
+is_codebase value = not (is_string value) || is_base (string_in value)
+
+-- a byte of a name
 abbrev pub is_name_byte : ℕ → Bool
-is_name_byte byte = is_ascii_lowercase byte || is_ascii_digit byte || byte == 45 || byte == 34
+is_name_byte byte = is_ascii_lowercase byte || is_ascii_digit byte || byte == 45
 
 -- what is wrong with a mirror, as it is printed
 abbrev pub mirror_string : MirrorFault → List ℕ
 mirror_string mirror.Missing = codes "a profile has 1 to 4 mirrors, and their codebases begin with http:// and end with /"
 mirror_string mirror.Fifth = codes "a profile has at most 4 mirrors"
 mirror_string (mirror.Codebase value) =
-    codes "codebase is " ++ (shown_string value.now ++ codes ": it begins with http:// and ends with /")
+    codes "codebase is \"" ++ (shown_string value.now ++ codes "\": it begins with http:// and ends with /")
 mirror_string (mirror.Name value) =
-    codes "name is " ++ (shown_string value.now ++ codes ": a name is 1 to 32 of a-z 0-9 -")
+    codes "name is \"" ++ (shown_string value.now ++ codes "\": a name is 1 to 32 of a-z 0-9 -")
 mirror_string mirror.Other =
     codes "a name is 1 to 32 of a-z 0-9 - and no other mirror's, a codebase at most 256 visible characters, a budget at most 1152921504606846976"
 
@@ -68,17 +76,17 @@ mirror_string mirror.Other =
 unfoldable pub values_string : List ℕ → List ℕ → List ℕ
 values_string codebase name =
     if not (is_codebase codebase) then
-    codes "codebase is " ++ (shown_string codebase ++ codes ": it begins with http:// and ends with /")
-    else if not (list_all is_name_byte name) then
-    codes "name is " ++ (shown_string name ++ codes ": a name is 1 to 32 of a-z 0-9 -")
+    codes "codebase is \"" ++ (shown_string (string_in codebase) ++ codes "\": it begins with http:// and ends with /")
+    else if not (list_all is_name_byte (string_in name)) then
+    codes "name is \"" ++ (shown_string (string_in name) ++ codes "\": a name is 1 to 32 of a-z 0-9 -")
     else mirror_string mirror.Other
 
 -- the values of the codebase and the name of a mirror, from the line after its header on; or nothing
 unfoldable pub codebase_in : List (List ℕ) → ℕ → List ℕ
-codebase_in lines first = verb_found (found_from lines (codes "codebase") (Some first))
+codebase_in lines first = value_found (found_from lines (codes "codebase") (Some first))
 
 unfoldable pub name_in : List (List ℕ) → ℕ → List ℕ
-name_in lines first = verb_found (found_from lines (codes "name") (Some first))
+name_in lines first = value_found (found_from lines (codes "name") (Some first))
 
 -- by the index and the line after its header
 abbrev pub wrong_from : List (List ℕ) → ℕ → ℕ → List ℕ

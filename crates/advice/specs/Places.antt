@@ -27,6 +27,28 @@ key_of line = trim (before_first is_equals line)
 abbrev pub value_of : List ℕ → List ℕ
 value_of line = shortened (trim (after_first is_equals line))
 
+-- a quote, and an apostrophe
+abbrev pub is_quote : ℕ → Bool
+is_quote byte = byte == 34
+
+abbrev pub is_apostrophe : ℕ → Bool
+is_apostrophe byte = byte == 39
+
+-- a value begins with one
+abbrev pub has_quote : List ℕ → Bool
+has_quote value = starts_with nat_eq value (codes "\"")
+
+abbrev pub has_apostrophe : List ℕ → Bool
+has_apostrophe value = starts_with nat_eq value (codes "'")
+
+-- rule: String of a value
+-- what is between the quote or the apostrophe that a value begins with and the next one, else nothing
+abbrev pub string_in : List ℕ → List ℕ
+string_in value =
+    if has_quote value then before_first is_quote (after_first is_quote value)
+    else if has_apostrophe value then before_first is_apostrophe (after_first is_apostrophe value)
+    else []
+
 -- rule: Line of a table
 -- the index of the line that begins with a header after so many that do, if so many lines are before these
 abbrev pub header_after : List ℕ → ℕ → ℕ → List (List ℕ) → Option ℕ

@@ -2,7 +2,7 @@
 use Rattle.std.specs.Prelude.{ℕ, ◌+◌, ◌==◌, Bool, List, [], codes, drop, length, take, unwrap_or, Option, Some, None, option_map}
 use Rattle.std.specs.List.{after_first, before_first}
 use Rattle.omaha_arguments.specs.Options.{number_of}
-use Rattle.advice.specs.Places.{Found, header_after, key_after}
+use Rattle.advice.specs.Places.{Found, header_after, key_after, string_in}
 use Rattle.advice.specs.Tables.{header_of, inner_kind, outer_kind}
 use Rattle.advice.specs.declared.tables.Kind.{Kind}
 use Rattle.advice.specs.declared.tables.Kind.TheVariants as kind
@@ -101,10 +101,11 @@ found_from lines key (Some first) = key_after key first (drop first lines)
 abbrev pub found_at : List (List ℕ) → Spot → Option Found
 found_at lines spot = found_from lines spot.key spot.first
 
--- what is written after `do =`, if anything is
-abbrev pub verb_found : Option Found → List ℕ
-verb_found None = []
-verb_found (Some found) = found.value
+-- the value of a line, if there is one
+abbrev pub value_found : Option Found → List ℕ
+value_found None = []
+value_found (Some found) = found.value
 
+-- the word after `do =`, if there is one
 abbrev pub verb_at : List (List ℕ) → Spot → List ℕ
-verb_at lines spot = verb_found (found_from lines (codes "do") spot.first)
+verb_at lines spot = string_in (value_found (found_from lines (codes "do") spot.first))

@@ -41,21 +41,21 @@ outer_kind name = lookup (bytes_eq name) outer_kinds
 abbrev pub inner_kind : List ℕ → Option Kind
 inner_kind name = lookup (bytes_eq name) inner_kinds
 
--- the keys of an edit by what is written after `do =`, with a space between two
+-- the keys of an edit by the word after `do =`, with a space between two
 abbrev pub edit_keys : List (List ℕ × List ℕ)
 edit_keys =
-    (codes "\"add_app\"", codes "do app default")
-    ∷ (codes "\"add_release\"", codes "do app version name size sha256")
-    ∷ (codes "\"add_cohort\"", codes "do app cohort")
-    ∷ (codes "\"set_target\"", codes "do app cohort target held")
-    ∷ (codes "\"set_share\"", codes "do app cohort share")
-    ∷ (codes "\"set_open\"", codes "do app cohort on")
-    ∷ (codes "\"add_diff\"", codes "do app from to name size sha256")
-    ∷ (codes "\"set_stone\"", codes "do app version on")
-    ∷ (codes "\"set_withdrawn\"", codes "do app version on")
-    ∷ (codes "\"set_audience\"", codes "do app version cohorts")
-    ∷ (codes "\"set_rollback\"", codes "do app cohort on")
-    ∷ (codes "\"set_floor\"", codes "do app version floor")
+    (codes "add_app", codes "do app default")
+    ∷ (codes "add_release", codes "do app version name size sha256")
+    ∷ (codes "add_cohort", codes "do app cohort")
+    ∷ (codes "set_target", codes "do app cohort target held")
+    ∷ (codes "set_share", codes "do app cohort share")
+    ∷ (codes "set_open", codes "do app cohort on")
+    ∷ (codes "add_diff", codes "do app from to name size sha256")
+    ∷ (codes "set_stone", codes "do app version on")
+    ∷ (codes "set_withdrawn", codes "do app version on")
+    ∷ (codes "set_audience", codes "do app version cohorts")
+    ∷ (codes "set_rollback", codes "do app cohort on")
+    ∷ (codes "set_floor", codes "do app version floor")
     ∷ []
 
 -- the keys of all edits
@@ -63,7 +63,7 @@ abbrev pub all_edit_keys : List ℕ
 all_edit_keys = codes "do app cohort share target held version on cohorts floor name size sha256 from to default"
 
 -- rule: Keys of a table
--- the keys that a table of a kind may have; of an edit, by what is written after `do =`
+-- the keys that a table of a kind may have; of an edit, by the word after `do =`
 abbrev pub keys_of : Kind → List ℕ → List ℕ
 keys_of kind.Profile verb = codes "schema mirror app"
 keys_of kind.Script verb = codes "schema base edit"

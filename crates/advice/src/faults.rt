@@ -5,11 +5,12 @@ ghost use Rattle.std.specs.List.{list_all};
 ghost use Rattle.streams.specs.Strings.{shown_string};
 ghost use Rattle.toml.specs.Errors.{IsWithin};
 ghost use Rattle.advice.specs.Entries.{place_string};
-ghost use Rattle.advice.specs.Faults.{IsTomlAdvice, codebase_in, count_advice, is_codebase, is_continuation, is_name_byte, mirror_advice, mirror_at, mirror_string, name_in, place_after, point_string, utf8_advice, values_string, wrong_from, wrong_string};
-ghost use Rattle.advice.specs.Spots.{found_from, verb_found};
+ghost use Rattle.advice.specs.Faults.{IsTomlAdvice, codebase_in, count_advice, is_base, is_codebase, is_continuation, is_name_byte, is_string, mirror_advice, mirror_at, mirror_string, name_in, place_after, point_string, utf8_advice, values_string, wrong_from, wrong_string};
+ghost use Rattle.advice.specs.Places.{string_in};
 
 use crate::entries::Place;
-use crate::spots::{first_in, found_from};
+use crate::places::{has_apostrophe, has_quote, string_in};
+use crate::spots::{first_in, value_from};
 use crate::tables::Kind;
 use std::alloc::{AllocError, Global};
 use std::fmt;
@@ -112,23 +113,35 @@ pub(crate) fn count_advice(alloc: Global, file: &str) -> Result<String, AllocErr
     )
 }
 
+fn is_string(value: &str) -> bool
+    ensures { result ≡ is_string value.now }
+{
+    has_quote(value) || has_apostrophe(value)
+}
+
+fn is_base(string: &str) -> bool
+    ensures { result ≡ is_base string.now }
+{
+    let bytes = string.as_bytes();
+    bytes.starts_with(b"http://") && bytes.ends_with(b"/")
+}
+
 fn is_codebase(value: &str) -> bool
     ensures { result ≡ is_codebase value.now }
 {
-    let bytes = value.as_bytes();
-    bytes.is_empty() || (bytes.starts_with(b"\"http://") && bytes.ends_with(b"/\""))
+    !is_string(value) || is_base(string_in(value))
 }
 
 fn is_name_byte(byte: u8) -> bool
     ensures { result ≡ is_name_byte byte }
 {
-    byte.is_ascii_lowercase() || byte.is_ascii_digit() || byte == b'-' || byte == b'"'
+    byte.is_ascii_lowercase() || byte.is_ascii_digit() || byte == b'-'
 }
 
-fn are_name_bytes(value: &str) -> bool
-    ensures { result ≡ list_all is_name_byte value.now }
+fn are_name_bytes(string: &str) -> bool
+    ensures { result ≡ list_all is_name_byte string.now }
 {
-    value.as_bytes().iter().all(|byte| is_name_byte(*byte))
+    string.as_bytes().iter().all(|byte| is_name_byte(*byte))
 }
 
 /// What is wrong with a mirror.
@@ -154,12 +167,12 @@ impl fmt::Display for MirrorFault<'_> {
                 let value = Shown { string: value };
                 write!(
                     f,
-                    "codebase is {value}: it begins with http:// and ends with /"
+                    "codebase is \"{value}\": it begins with http:// and ends with /"
                 )
             }
             MirrorFault::Name(value) => {
                 let value = Shown { string: value };
-                write!(f, "name is {value}: a name is 1 to 32 of a-z 0-9 -")
+                write!(f, "name is \"{value}\": a name is 1 to 32 of a-z 0-9 -")
             }
             MirrorFault::Other => f.write_str(
                 "a name is 1 to 32 of a-z 0-9 - and no other mirror's, a codebase at most 256 visible characters, a budget at most 1152921504606846976",
@@ -174,22 +187,11 @@ fn fault_of_values<'a>(codebase: &'a str, name: &'a str) -> MirrorFault<'a>
     ensures { mirror_string result ≡ values_string codebase.now name.now }
 {
     if !is_codebase(codebase) {
-        MirrorFault::Codebase(codebase)
-    } else if !are_name_bytes(name) {
-        MirrorFault::Name(name)
+        MirrorFault::Codebase(string_in(codebase))
+    } else if !are_name_bytes(string_in(name)) {
+        MirrorFault::Name(string_in(name))
     } else {
         MirrorFault::Other
-    }
-}
-
-// The value of a key from a line on, or nothing.
-fn value_from<'t>(lines: &[&'t str], key: &str, first: usize) -> &'t str
-    requires { first ≤ length lines.now }
-    ensures { result.now ≡ verb_found (found_from (map (λ line. line.now) lines.now) key.now (Some first)) }
-{
-    match found_from(lines, key, Some(first)) {
-        Some(found) => found.value,
-        None => "",
     }
 }
 
@@ -198,7 +200,7 @@ fn codebase_in<'t>(lines: &[&'t str], first: usize) -> &'t str
     requires { first ≤ length lines.now }
     ensures { result.now ≡ codebase_in (map (λ line. line.now) lines.now) first }
 {
-    value_from(lines, "codebase", first)
+    value_from(lines, "codebase", Some(first))
 }
 
 #[tactic(auto, unfolding(crate::specs::Faults::name_in))]
@@ -206,7 +208,7 @@ fn name_in<'t>(lines: &[&'t str], first: usize) -> &'t str
     requires { first ≤ length lines.now }
     ensures { result.now ≡ name_in (map (λ line. line.now) lines.now) first }
 {
-    value_from(lines, "name", first)
+    value_from(lines, "name", Some(first))
 }
 
 // What is wrong with a mirror, by its index and the line after its header.

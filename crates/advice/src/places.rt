@@ -3,7 +3,7 @@
 ghost use Rattle.std.specs.Prelude.{◌≡◌, ◌<◌, ◌≤◌, drop, length, map, option_map, IfOk, IfSome};
 ghost use Rattle.std.specs.Str.Lines.{lines};
 ghost use Rattle.std.specs.List.{after_first, before_first};
-ghost use Rattle.advice.specs.Places.{Found, begins, begins_table, found_seen, header_after, is_equals, key_after, key_of, shortened, value_of};
+ghost use Rattle.advice.specs.Places.{Found, begins, begins_table, found_seen, has_apostrophe, has_quote, header_after, is_apostrophe, is_equals, is_quote, key_after, key_of, shortened, string_in, value_of};
 
 use std::alloc::{AllocError, Global};
 
@@ -54,6 +54,56 @@ fn split_line(line: &str) -> (&str, &str)
 {
     let (key, value) = split_equals(line);
     (key.trim(), shortened(value.trim()))
+}
+
+// What is before and after the first quote.
+fn split_quote(text: &str) -> (&str, &str)
+    ensures before { result.0.now ≡ before_first is_quote text.now }
+    ensures after { result.1.now ≡ after_first is_quote text.now }
+{
+    match text.split_once('"') {
+        Some(parts) => parts,
+        None => (text, ""),
+    }
+}
+
+// What is before and after the first apostrophe.
+fn split_apostrophe(text: &str) -> (&str, &str)
+    ensures before { result.0.now ≡ before_first is_apostrophe text.now }
+    ensures after { result.1.now ≡ after_first is_apostrophe text.now }
+{
+    match text.split_once('\'') {
+        Some(parts) => parts,
+        None => (text, ""),
+    }
+}
+
+/// Whether a value begins with a quote.
+pub(crate) fn has_quote(value: &str) -> bool
+    ensures { result ≡ has_quote value.now }
+{
+    value.as_bytes().starts_with(b"\"")
+}
+
+/// Whether a value begins with an apostrophe.
+pub(crate) fn has_apostrophe(value: &str) -> bool
+    ensures { result ≡ has_apostrophe value.now }
+{
+    value.as_bytes().starts_with(b"'")
+}
+
+// rule: String of a value
+/// What is in the quotes or the apostrophes that a value begins with, else nothing.
+pub(crate) fn string_in(value: &str) -> &str
+    ensures { result.now ≡ string_in value.now }
+{
+    if has_quote(value) {
+        split_quote(split_quote(value).1).0
+    } else if has_apostrophe(value) {
+        split_apostrophe(split_apostrophe(value).1).0
+    } else {
+        ""
+    }
 }
 
 // rule: Line of a table

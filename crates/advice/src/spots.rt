@@ -2,11 +2,11 @@
 
 ghost use Rattle.std.specs.Prelude.{◌≡◌, ◌≤◌, IfSome, codes, length, map, option_map, Some};
 ghost use Rattle.std.specs.List.{after_first, before_first};
-ghost use Rattle.advice.specs.Spots.{app_end, first_below, first_in, found_at, found_from, is_close, is_dot, is_open, spot_at, spot_below, spot_by, spot_in, spot_of, spot_seen, step_of, step_seen, verb_at, verb_found};
-ghost use Rattle.advice.specs.Places.{found_seen};
+ghost use Rattle.advice.specs.Spots.{app_end, first_below, first_in, found_at, found_from, is_close, is_dot, is_open, spot_at, spot_below, spot_by, spot_in, spot_of, spot_seen, step_of, step_seen, value_found, verb_at};
+ghost use Rattle.advice.specs.Places.{found_seen, string_in};
 ghost use Rattle.advice.specs.Tables.{inner_kind, outer_kind};
 
-use crate::places::{FoundKey, header_from, key_from};
+use crate::places::{FoundKey, header_from, key_from, string_in};
 use crate::tables::{Kind, header_of, inner_kind, outer_kind};
 use omaha_arguments::number_of;
 
@@ -200,13 +200,21 @@ pub(crate) fn found_from<'t>(
     }
 }
 
-/// What is written after `do =`, if anything is.
-pub(crate) fn verb_at<'t>(lines: &[&'t str], first: Option<usize>) -> &'t str
+/// The value of a key, from a line on that may be unknown, or nothing.
+pub(crate) fn value_from<'t>(lines: &[&'t str], key: &str, first: Option<usize>) -> &'t str
     requires { IfSome first (λ at. at ≤ length lines.now) }
-    ensures { result.now ≡ verb_found (found_from (map (λ line. line.now) lines.now) (codes "do") first) }
+    ensures { result.now ≡ value_found (found_from (map (λ line. line.now) lines.now) key.now first) }
 {
-    match found_from(lines, "do", first) {
+    match found_from(lines, key, first) {
         Some(found) => found.value,
         None => "",
     }
+}
+
+/// The word after `do =`, or nothing.
+pub(crate) fn verb_at<'t>(lines: &[&'t str], first: Option<usize>) -> &'t str
+    requires { IfSome first (λ at. at ≤ length lines.now) }
+    ensures { result.now ≡ string_in (value_found (found_from (map (λ line. line.now) lines.now) (codes "do") first)) }
+{
+    string_in(value_from(lines, "do", first))
 }

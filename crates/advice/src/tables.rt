@@ -79,18 +79,18 @@ fn keys_of_edit(verb: &str) -> &'static str
     ensures { result.now ≡ keys_of kind.Edit verb.now }
 {
     match verb {
-        "\"add_app\"" => "do app default",
-        "\"add_release\"" => "do app version name size sha256",
-        "\"add_cohort\"" => "do app cohort",
-        "\"set_target\"" => "do app cohort target held",
-        "\"set_share\"" => "do app cohort share",
-        "\"set_open\"" => "do app cohort on",
-        "\"add_diff\"" => "do app from to name size sha256",
-        "\"set_stone\"" => "do app version on",
-        "\"set_withdrawn\"" => "do app version on",
-        "\"set_audience\"" => "do app version cohorts",
-        "\"set_rollback\"" => "do app cohort on",
-        "\"set_floor\"" => "do app version floor",
+        "add_app" => "do app default",
+        "add_release" => "do app version name size sha256",
+        "add_cohort" => "do app cohort",
+        "set_target" => "do app cohort target held",
+        "set_share" => "do app cohort share",
+        "set_open" => "do app cohort on",
+        "add_diff" => "do app from to name size sha256",
+        "set_stone" => "do app version on",
+        "set_withdrawn" => "do app version on",
+        "set_audience" => "do app version cohorts",
+        "set_rollback" => "do app cohort on",
+        "set_floor" => "do app version floor",
         _ =>
             "do app cohort share target held version on cohorts floor name size sha256 from to default",
     }
