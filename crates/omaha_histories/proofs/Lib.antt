@@ -4,4 +4,5 @@ mod FollowLemmas
 mod LeadLemmas
 pub mod LookLemmas
 mod OneLemmas
+mod ReturnLemmas
 mod ServerLemmas

@@ -2,6 +2,7 @@
 use Rattle.std.specs.Prelude.{ℕ, Bool, ◌+◌, ◌-◌, ◌==◌, List, [], ◌∷◌, ◌++◌, codes, decimal, if◌then◌else◌, length}
 use Rattle.std.specs.List.{before_first}
 use Rattle.std.specs.Str.{is_utf8}
+use Rattle.std.specs.Str.Lines.{strip_carriage_return}
 use Rattle.kept_records.specs.declared.record.Kind.{Kind}
 use Rattle.kept_records.specs.declared.record.Kind.TheVariants as kind
 use Rattle.kept_records.specs.declared.record.Record.{Record}
@@ -22,9 +23,9 @@ is_feed byte = byte == 10
 abbrev pub before_feed : List ℕ → List ℕ
 before_feed text = before_first is_feed text
 
--- the first line of bytes that are UTF-8, else nothing
+-- the first line of bytes that are UTF-8, without the carriage return at its end, else nothing
 abbrev pub first_line : List ℕ → List ℕ
-first_line bytes = if is_utf8 bytes then before_feed bytes else []
+first_line bytes = if is_utf8 bytes then strip_carriage_return (before_feed bytes) else []
 
 -- a line of a record's number and kind, how many bytes it has, the edition that is then published, and a string
 abbrev pub words_line : ℕ → List ℕ → ℕ → ℕ → List ℕ → List ℕ

@@ -3,6 +3,7 @@
 ghost use Rattle.std.specs.Prelude.{◌≡◌, ◌+◌, ◌≤◌, ◌^◌, ◌++◌, IfOk, IfSome, Some, string_bytes};
 ghost use Rattle.std.specs.Option.{is_some};
 ghost use Rattle.std.specs.Str.{is_utf8};
+ghost use Rattle.std.specs.Str.Lines.{strip_carriage_return};
 ghost use Rattle.omaha_histories.specs.Listing.{before_feed, first_line, kind_word, listing, record_line, words_line};
 
 use crate::restarts::prefixes::edition_of;
@@ -42,12 +43,22 @@ fn before_feed(text: &str) -> &str
     }
 }
 
-// The first line of what is UTF-8, else nothing.
+// A line without the carriage return at its end.
+fn without_return(line: &str) -> &str
+    ensures { result.now ≡ strip_carriage_return line.now }
+{
+    match line.strip_suffix('\r') {
+        Some(start) => start,
+        None => line,
+    }
+}
+
+// The first line of what is UTF-8, without its end, else nothing.
 fn first_line(bytes: &[u8]) -> &str
     ensures { result.now ≡ first_line bytes.now }
 {
     match as_string(bytes) {
-        Some(text) => before_feed(text),
+        Some(text) => without_return(before_feed(text)),
         None => "",
     }
 }
@@ -93,7 +104,7 @@ fn line_of(alloc: Global, number: u64, edition: u64, entry: &Record) -> Result<S
 
 // rule: Listed records
 /// The lines of records, of which the first has this number, from 1 to 2^53: of each its number, its kind, how many bytes
-/// it has, the edition that is then published, and the first line of the bytes without control characters.
+/// it has, the edition that is then published, and the first line of the bytes without its end and control characters.
 pub fn list(alloc: Global, first: u64, records: &[Record]) -> Result<String, AllocError>
     requires { (1 ≤ first) × (first ≤ 2 ^ 53) }
     ensures { IfOk result (λ text. string_bytes text ≡ listing first records.now) }
