@@ -2,6 +2,7 @@
 -- this project's profile.
 use Rattle.std.specs.Prelude.{ℕ, ◌==◌, ◌||◌, Bool, if◌then◌else◌, List, codes, length, nat_eq, nat_lt, Option, Some, None}
 use Rattle.std.specs.List.{after_first, list_any, starts_with}
+use Rattle.std.specs.Option.{option_or}
 use Rattle.omaha_arguments.specs.Options.{number_of}
 use Rattle.advice.specs.declared.addresses.AddressFault.{AddressFault}
 use Rattle.advice.specs.declared.addresses.AddressFault.TheVariants as fault
@@ -58,6 +59,10 @@ address_fault address =
     else if list_any is_slash address then Some fault.Path
     else fault_of_pair address
 
+-- the same of an address that a server may have been given twice
+abbrev pub given_fault : List ℕ → Bool → Option AddressFault
+given_fault address is_twice = option_or (address_fault address) (if is_twice then Some fault.Twice else None)
+
 -- what to do about it
 abbrev pub address_remedy : AddressFault → List ℕ
 address_remedy fault.Empty = codes "the address is empty: write HOST:PORT, or unix:PATH"
@@ -67,3 +72,4 @@ address_remedy fault.Path = codes "write HOST:PORT, without a path"
 address_remedy fault.NoPort = codes "it has no port: write HOST:PORT, or unix:PATH"
 address_remedy fault.BadPort = codes "its port is no number: write HOST:PORT, or unix:PATH"
 address_remedy fault.HighPort = codes "its port is above 65535"
+address_remedy fault.Twice = codes "--listen and --operator have this address: give each its own"

@@ -12,7 +12,7 @@ use Rattle.omaha_commands.specs.declared.failure.Failure.TheVariants as failure
 use Rattle.advice.specs.Documents.{edits_in, max_file}
 use Rattle.advice.specs.Looks.{IsAddressAdvice, IsLook, Sights}
 use Rattle.advice.specs.Replies.{IsPathSaid, IsReplySaid, explained}
-use Rattle.advice.specs.Sources.{aim_of, file_aim, profile_path, script_path}
+use Rattle.advice.specs.Sources.{aim_of, file_aim, is_given_twice, profile_path, script_path}
 use Rattle.advice.specs.declared.documents.Notice.TheVariants as notice
 use Rattle.advice.specs.declared.tables.Kind.TheVariants as kind
 
@@ -46,7 +46,8 @@ IsFound files sights command (failure.Script fault) said =
 IsFound files sights command (failure.Edit refused) said = IsEditAdvice files command refused said
 IsFound files sights command (failure.Stale number) said =
     IsPathSaid files (script_path command) kind.Script (notice.Stale number) said
-IsFound files sights command (failure.Net address) said = IsAddressAdvice sights (aim_of command) address said
+IsFound files sights command (failure.Net address) said =
+    IsAddressAdvice sights (aim_of command) address (is_given_twice command address) said
 IsFound files sights command (failure.File path) said = IsFileAdvice sights command path said
 IsFound files sights command (failure.Declined reply) said =
     IsReplySaid files command reply.status reply.body.items said

@@ -1,7 +1,7 @@
 -- What a second look at an address or a file finds, and what is said of it; this project's profile.
-use Rattle.std.specs.Prelude.{◌≡◌, ℕ, List, ◌++◌, codes, Option, Some, None}
+use Rattle.std.specs.Prelude.{◌≡◌, ℕ, Bool, List, ◌++◌, codes, Option, Some, None}
 use Rattle.streams.specs.Strings.{shown_string}
-use Rattle.advice.specs.Addresses.{address_fault, address_remedy}
+use Rattle.advice.specs.Addresses.{address_remedy, given_fault}
 use Rattle.advice.specs.declared.addresses.AddressFault.{AddressFault}
 use Rattle.advice.specs.declared.looks.Aim.{Aim}
 use Rattle.advice.specs.declared.looks.Seen.{Seen}
@@ -49,6 +49,6 @@ IsAddressLook sights aim address (Some fault) said = said ≡ look_string addres
 IsAddressLook sights aim address None said = IsLook sights aim address (codes "net") said
 
 -- rule: Advice on an address
--- what is wrong with an address, else what a second look finds there
-abbrev pub IsAddressAdvice : Sights → Aim → List ℕ → List ℕ → Type 0
-IsAddressAdvice sights aim address said = IsAddressLook sights aim address (address_fault address) said
+-- what is wrong with an address, which a server may have been given twice, else what a second look finds there
+abbrev pub IsAddressAdvice : Sights → Aim → List ℕ → Bool → List ℕ → Type 0
+IsAddressAdvice sights aim address is_twice said = IsAddressLook sights aim address (given_fault address is_twice) said

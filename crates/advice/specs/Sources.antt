@@ -1,5 +1,5 @@
 -- Which files and addresses a command names; this project's profile.
-use Rattle.std.specs.Prelude.{ℕ, Bool, false, List, [], codes, if◌then◌else◌, bytes_eq, Option, Some, None}
+use Rattle.std.specs.Prelude.{ℕ, ◌&&◌, Bool, false, List, [], codes, if◌then◌else◌, bytes_eq, Option, Some, None}
 use Rattle.omaha_arguments.specs.declared.command.Command.{Command}
 use Rattle.omaha_arguments.specs.declared.command.Command.TheVariants as command
 use Rattle.omaha_arguments.specs.declared.command.Question.{Question}
@@ -65,6 +65,11 @@ aim_of other = aim.Connect
 abbrev pub is_named : List ℕ → Option (List ℕ) → Bool
 is_named path None = false
 is_named path (Some named) = bytes_eq path named
+
+-- a server is to listen at the address both for clients and for the operator
+abbrev pub is_given_twice : Command → List ℕ → Bool
+is_given_twice (command.Serve asked) address = bytes_eq address asked.listen && is_named address asked.operator
+is_given_twice other address = false
 
 -- what a server does at a path: it finds the folder of packages, adds lines to the log, and reads the profile
 abbrev pub serve_aim : Serve → List ℕ → Aim

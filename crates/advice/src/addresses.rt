@@ -2,13 +2,13 @@
 
 ghost use Rattle.std.specs.Prelude.{◌≡◌, Some};
 ghost use Rattle.std.specs.List.{after_first};
-ghost use Rattle.advice.specs.Addresses.{address_fault, address_remedy, fault_of_number, fault_of_pair, fault_of_port, has_colon, has_literal, has_scheme, is_bracket, is_colon, is_slash, is_socket, tail_of};
+ghost use Rattle.advice.specs.Addresses.{address_fault, address_remedy, fault_of_number, fault_of_pair, fault_of_port, given_fault, has_colon, has_literal, has_scheme, is_bracket, is_colon, is_slash, is_socket, tail_of};
 ghost use Rattle.std.specs.List.{list_any};
 
 use omaha_arguments::number_of;
 use std::fmt;
 
-/// What is wrong with an address, of which an earlier one is reported before a later one.
+/// What is wrong with an address, of which an earlier one is reported before a later one. The last one is of a server's.
 #[derive(Clone, Copy)]
 pub(crate) enum AddressFault {
     Empty,
@@ -18,6 +18,7 @@ pub(crate) enum AddressFault {
     NoPort,
     BadPort,
     HighPort,
+    Twice,
 }
 
 impl AddressFault {
@@ -33,6 +34,7 @@ impl AddressFault {
             AddressFault::NoPort => "it has no port: write HOST:PORT, or unix:PATH",
             AddressFault::BadPort => "its port is no number: write HOST:PORT, or unix:PATH",
             AddressFault::HighPort => "its port is above 65535",
+            AddressFault::Twice => "--listen and --operator have this address: give each its own",
         }
     }
 }
@@ -138,8 +140,8 @@ fn fault_of_pair(address: &str) -> Option<AddressFault>
 }
 
 // rule: Fault of an address
-/// What is wrong with an address, if it is neither HOST:PORT nor unix:PATH.
-pub(crate) fn address_fault(address: &str) -> Option<AddressFault>
+// What is wrong with an address, if it is neither HOST:PORT nor unix:PATH.
+fn address_fault(address: &str) -> Option<AddressFault>
     ensures { result ≡ address_fault address.now }
 {
     if address.is_empty() {
@@ -156,5 +158,16 @@ pub(crate) fn address_fault(address: &str) -> Option<AddressFault>
         Some(AddressFault::Path)
     } else {
         fault_of_pair(address)
+    }
+}
+
+/// What is wrong with an address that a server may have been given twice.
+pub(crate) fn given_fault(address: &str, is_twice: bool) -> Option<AddressFault>
+    ensures { result ≡ given_fault address.now is_twice }
+{
+    match address_fault(address) {
+        Some(fault) => Some(fault),
+        None if is_twice => Some(AddressFault::Twice),
+        None => None,
     }
 }

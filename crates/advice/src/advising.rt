@@ -3,8 +3,9 @@
 ghost use Rattle.std.specs.Prelude.{◌≡◌, [], Err, IfOk, IfSome, List, None, Ok, option_map, string_bytes, true, ℕ};
 ghost use Rattle.advice.specs.Advising.{IsAdvice, IsEditAdvice, IsFileAdvice, IsFound, IsRefused};
 ghost use Rattle.advice.specs.Documents.{edits_in, notice_of};
+ghost use Rattle.advice.specs.Looks.{IsAddressAdvice};
 ghost use Rattle.advice.specs.Replies.{IsPathSaid, explained};
-ghost use Rattle.advice.specs.Sources.{profile_path, script_path};
+ghost use Rattle.advice.specs.Sources.{aim_of, is_given_twice, profile_path, script_path};
 ghost use Rattle.advice.specs.declared.tables.Kind.TheVariants as kind;
 ghost use Rattle.catalogue.specs.Batches.{outcome};
 ghost use Rattle.catalogue.specs.declared.edit.Edit.{Edit};
@@ -14,7 +15,7 @@ ghost use Rattle.streams.specs.Reading.{IsWhole};
 use crate::documents::{MAX_FILE, Trouble};
 use crate::looks::{Looks, address_advice, look_again};
 use crate::replied::{explained, path_said, reply_advice};
-use crate::sources::{aim_of, file_aim, profile_path, script_path};
+use crate::sources::{aim_of, file_aim, is_given_twice, profile_path, script_path};
 use crate::tables::Kind;
 use catalogue::{Batch, Catalogue, Refused};
 use omaha_arguments::Command;
@@ -107,6 +108,15 @@ fn file_advice<R: Looks>(rt: &R, alloc: Global, command: &Command, path: &str) -
     look_again(rt, alloc, file_aim(command, path), path, "file")
 }
 
+// What is wrong with an address, or what a second look finds there, by what the command does there.
+fn net_advice<R: Looks>(rt: &R, alloc: Global, command: &Command, address: &str) -> Option<String>
+    ensures { IfSome result (λ said. IsAddressAdvice (R.sights rt.now) (aim_of command.now) address.now
+        (is_given_twice command.now address.now) (string_bytes said)) }
+{
+    let is_twice = is_given_twice(command, address);
+    address_advice(rt, alloc, aim_of(command), address, is_twice)
+}
+
 // A copy of a string.
 fn fixed(alloc: Global, text: &str) -> Option<String>
     ensures { IfSome result (λ copy. string_bytes copy ≡ text.now) }
@@ -128,7 +138,7 @@ fn find<R: Disk + Looks + AllocGlobal>(
         Failure::Script(fault) => script_said(rt, alloc, command, Trouble::Fault(fault)),
         Failure::Edit(refused) => edit_advice(rt, alloc, command, *refused),
         Failure::Stale(number) => script_said(rt, alloc, command, Trouble::Stale(*number)),
-        Failure::Net(address) => { address_advice(rt, alloc, aim_of(command), address.as_str()) }
+        Failure::Net(address) => net_advice(rt, alloc, command, address.as_str()),
         Failure::File(path) => file_advice(rt, alloc, command, path.as_str()),
         Failure::Declined(reply) => {
             reply_advice(rt, alloc, command, reply.status, reply.body.as_slice())

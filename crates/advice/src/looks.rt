@@ -5,7 +5,7 @@ ghost use Rattle.advice.specs.Addresses.{address_remedy};
 ghost use Rattle.advice.specs.Looks.{IsAddressAdvice, IsLook, look_string, seen_string};
 ghost use Rattle.advice.specs.declared.looks.Aim.TheVariants as aim;
 
-use crate::addresses::address_fault;
+use crate::addresses::given_fault;
 use std::alloc::{AllocError, Global};
 use std::fs::OpenOptions;
 use std::io::ErrorKind;
@@ -177,10 +177,18 @@ fn connect<R: Net<Listener = TcpListener, Stream = TcpStream>>(rt: &R, address: 
     }
 }
 
+// What is seen of a file that isn't there and couldn't be made.
+fn unmade(seen: Seen) -> Seen {
+    match seen {
+        Seen::Missing => Seen::Unmade,
+        seen => seen,
+    }
+}
+
 fn bind_path<R: Files>(rt: &R, path: &str) -> Seen {
     match rt.metadata(path) {
         Ok(_) => Seen::InUse,
-        Err(error) => seen_of(error.kind()),
+        Err(error) => unmade(seen_of(error.kind())),
     }
 }
 
@@ -234,10 +242,7 @@ fn append<R: Files>(rt: &R, path: &str) -> Seen {
         Ok(found) if found.is_dir() => Seen::Folder,
         Ok(found) if found.is_file() => open_end(rt, path),
         Ok(_) => Seen::Special,
-        Err(error) => match seen_of(error.kind()) {
-            Seen::Missing => Seen::Unmade,
-            seen => seen,
-        },
+        Err(error) => unmade(seen_of(error.kind())),
     }
 }
 
@@ -292,16 +297,17 @@ pub(crate) fn look_again<R: Looks>(
 }
 
 // rule: Advice on an address
-/// Says what is wrong with an address, else what a second look finds there.
+/// Says what is wrong with an address, which a server may have been given twice, else what a second look finds there.
 pub(crate) fn address_advice<R: Looks>(
     rt: &R,
     alloc: Global,
     aim: Aim,
     address: &str,
+    is_twice: bool,
 ) -> Option<String>
-    ensures { IfSome result (λ said. IsAddressAdvice (R.sights rt.now) aim address.now (string_bytes said)) }
+    ensures { IfSome result (λ said. IsAddressAdvice (R.sights rt.now) aim address.now is_twice (string_bytes said)) }
 {
-    match address_fault(address) {
+    match given_fault(address, is_twice) {
         Some(fault) => say(alloc, address, &fault, "net").ok(),
         None => look_again(rt, alloc, aim, address, "net"),
     }

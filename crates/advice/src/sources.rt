@@ -1,7 +1,7 @@
 //! The files and addresses that commands name.
 
 ghost use Rattle.std.specs.Prelude.{◌≡◌, option_map};
-ghost use Rattle.advice.specs.Sources.{aim_of, file_aim, is_named, profile_in, profile_path, script_in, script_path, serve_aim, server_in, server_of, unless_input};
+ghost use Rattle.advice.specs.Sources.{aim_of, file_aim, is_given_twice, is_named, profile_in, profile_path, script_in, script_path, serve_aim, server_in, server_of, unless_input};
 
 use crate::looks::Aim;
 use omaha_arguments::{Command, Question, Serve, Source};
@@ -110,6 +110,18 @@ fn is_named(path: &str, named: &Option<Text>) -> bool
     match named {
         Some(named) => path == named.as_str(),
         None => false,
+    }
+}
+
+/// Whether a server is to listen at an address both for clients and for the operator.
+pub(crate) fn is_given_twice(command: &Command, address: &str) -> bool
+    ensures { result ≡ is_given_twice command.now address.now }
+{
+    match command {
+        Command::Serve(asked) => {
+            address == asked.listen.as_str() && is_named(address, &asked.operator)
+        }
+        _ => false,
     }
 }
 
