@@ -19,7 +19,7 @@ use values::Text;
 /// The help of `--to`.
 pub(crate) const TO: &str = "The operator's address of the server: 127.0.0.1:8081, unix:PATH";
 
-const TIMEOUT: &str = "Seconds that the whole exchange may take, 1 to 86400 [default: 30]";
+const TIMEOUT: &str = "Seconds that an exchange may take, 1 to 86400 [default: 30]";
 
 /// What is said of a time limit that is none.
 pub(crate) const INVALID_TIMEOUT: &str = "--timeout is a number of seconds from 1 to 86400";
@@ -67,6 +67,7 @@ If the command fails, it prints one line on standard error.
   omaha: net ADDR     the server can't be reached at ADDR in time, or its reply isn't whole
   omaha: write        standard output failed
   omaha: memory       out of memory
+--timeout can't end the look-up of a host's name, nor the wait for a socket at PATH to accept.
 If F was read, the script may be published after a failure. Publish it again: it is published only
 once, and `stale` says so.
 
@@ -104,6 +105,7 @@ If the command fails, it prints one line on standard error.
   omaha: net ADDR   the server can't be reached at ADDR in time, or its reply isn't whole
   omaha: write      standard output failed
   omaha: memory     out of memory
+--timeout can't end the look-up of a host's name, nor the wait for a socket at PATH to accept.
 The budget may be raised after a failure. Raise it again: that changes nothing more.
 
 Exit status: 0 if the budget was raised, 1 if the server gave another reply or the command failed,
@@ -126,6 +128,7 @@ If the command fails, it prints one line on standard error.
   omaha: net ADDR   the server can't be reached at ADDR in time, or its reply isn't whole
   omaha: write      standard output failed
   omaha: memory     out of memory
+--timeout can't end the look-up of a host's name, nor the wait for a socket at PATH to accept.
 
 Exit status: 0 if the profile was printed, 1 if the command failed, 2 if the arguments are invalid.
 
@@ -147,6 +150,7 @@ If the command fails, it prints one line on standard error.
   omaha: net ADDR   the server can't be reached at ADDR in time, or its reply isn't whole
   omaha: write      standard output failed
   omaha: memory     out of memory
+--timeout can't end the look-up of a host's name, nor the wait for a socket at PATH to accept.
 
 Exit status: 0 if the status was printed, 1 if the server gave another reply or the command failed,
 2 if the arguments are invalid.

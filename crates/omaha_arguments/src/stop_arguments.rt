@@ -36,6 +36,7 @@ If the command fails, it prints one line on standard error.
   omaha: stopping ADDR   the server hasn't finished in time
   omaha: write           standard output failed
   omaha: memory          out of memory
+--timeout can't end the look-up of a host's name, nor the wait for a socket at PATH to accept.
 The server may be stopping after a failure. Stop it again: that changes nothing more.
 
 Exit status: 0 if the server has ended, 1 if it gave another reply or the command failed, 2 if the

@@ -61,6 +61,7 @@ If the walk fails, it prints one line on standard error. The lines of the steps 
   omaha: U8 Busy           the server had no mirror with room
   omaha: write             standard output failed
   omaha: memory            out of memory
+--timeout can't end the look-up of a host's name.
 
 Exit status: 0 if there is no update any more, 1 if the walk failed, 2 if the arguments are invalid.
 
