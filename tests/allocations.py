@@ -375,7 +375,7 @@ def sweep(library, program, swept):
 
 def main():
     reader = argparse.ArgumentParser(description="Lets each allocation fail in turn.")
-    reader.add_argument("--program", default=str(TOP / "crates" / "omaha" / "out" / "omaha"))
+    reader.add_argument("--program", type=os.path.abspath, default=TOP / "crates" / "omaha" / "out" / "omaha")
     reader.add_argument("names", nargs="*", metavar="NAME")
     arguments = reader.parse_args()
     if not os.path.isfile(arguments.program):
