@@ -14,7 +14,7 @@ use Rattle.payload_graph.specs.declared.payload.TrackKey.{TrackKey}
 use Rattle.payload_graph.specs.Net.{Net, net_among, net_in, net_of}
 use Rattle.price_cert.specs.declared.row.Prices.{Prices}
 use Rattle.price_cert.specs.declared.row.Row.{Row}
-use Rattle.price_cert.specs.Strings.{string_among, string_of}
+use Rattle.certificates.specs.Strings.{string_among, string_of}
 
 no_release : Release
 no_release =

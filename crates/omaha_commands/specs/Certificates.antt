@@ -13,11 +13,11 @@ use Rattle.price_cert.specs.Rules.{AreCertified, IsFirstWrong}
 use Rattle.price_cert.specs.declared.row.Prices.{Prices}
 use Rattle.price_cert.specs.declared.row.Row.{Row}
 use Rattle.price_cert.specs.declared.rules.Wrong.{Wrong}
-use Rattle.price_cert.specs.Keys.{key_of_string}
-use Rattle.price_cert.specs.Reading.{prices_of_string}
-use Rattle.price_cert.specs.Strings.{spelled_at, string_among}
-use Rattle.price_cert.specs.declared.certificates.fault.Fault.{Fault}
-use Rattle.price_cert.specs.declared.certificates.fault.Fault.TheVariants as faults
+use Rattle.certificates.specs.Keys.{key_of_string}
+use Rattle.certificates.specs.Reading.{prices_of_string}
+use Rattle.certificates.specs.Strings.{spelled_at, string_among}
+use Rattle.certificates.specs.declared.fault.Fault.{Fault}
+use Rattle.certificates.specs.declared.fault.Fault.TheVariants as faults
 use Rattle.values.specs.declared.read_error.ReadError.{ReadError}
 use Rattle.values.specs.declared.read_error.ReadError.TheVariants as errors
 

@@ -4,7 +4,7 @@ use Rattle.catalogue.specs.FaultStrings.{refused_string}
 use Rattle.omaha_json.specs.Faults.{fault_string}
 use Rattle.package_files.specs.Descriptions.{error_string as reason_text}
 use Rattle.package_files.specs.Lacking.{lacking_string}
-use Rattle.price_cert.specs.FaultStrings.{fault_string as certificate_fault_text}
+use Rattle.certificates.specs.FaultStrings.{fault_string as certificate_fault_text}
 use Rattle.profile_toml.specs.FaultStrings.{fault_string as profile_fault_text}
 use Rattle.streams.specs.Strings.{shown_string}
 use Rattle.update_client.specs.Faults.{fault_string as walk_fault_text}

@@ -4,7 +4,7 @@ use Rattle.catalogue.specs.Versions.{version_of}
 use Rattle.catalogue.specs.Lookups.{cohorts_at, is_app, is_cohort, is_release, releases_at}
 use Rattle.catalogue.specs.declared.content.App.{App}
 use Rattle.editions.specs.Editions.{content_of}
-use Rattle.price_cert.specs.declared.certificates.fault.Fault.TheVariants as fault
+use Rattle.certificates.specs.declared.fault.Fault.TheVariants as fault
 use Rattle.reviews.specs.Reviews.{AreReviews}
 use Rattle.reviews.specs.declared.review.TrackReview.{TrackReview}
 use Rattle.reviews.specs.Dot.{dot_string}

@@ -1,7 +1,7 @@
 -- A reader's error as a failure of the program.
 use Rattle.catalogue.specs.declared.fault.Refused.{Refused}
 use Rattle.profile_toml.specs.declared.fault.ProfileFault.{ProfileFault}
-use Rattle.price_cert.specs.declared.certificates.fault.Fault.{Fault as CertificateFault}
+use Rattle.certificates.specs.declared.fault.Fault.{Fault as CertificateFault}
 use Rattle.streams.specs.declared.reading.ReadFailure.{ReadFailure}
 use Rattle.streams.specs.declared.reading.ReadFailure.TheVariants as input
 use Rattle.update_client.specs.declared.fault.Fault.{Fault}

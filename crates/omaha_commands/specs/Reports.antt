@@ -12,7 +12,7 @@ use Rattle.reviews.specs.declared.review.TrackReview.{TrackReview}
 use Rattle.service_desks.specs.declared.services.service.Service.{Service}
 use Rattle.omaha_commands.specs.Certificates.{Certifies, Verifies}
 use Rattle.omaha_commands.specs.Summaries.{summary_of}
-use Rattle.price_cert.specs.declared.certificates.fault.Fault.{Fault}
+use Rattle.certificates.specs.declared.fault.Fault.{Fault}
 use Rattle.values.specs.declared.read_error.ReadError.{ReadError}
 use Rattle.omaha_commands.specs.Applying.{Applies}
 use Rattle.omaha_commands.specs.Profiles.{Files, IsServed, IsUnreadable, max_profile}

@@ -3,9 +3,9 @@ ghost use Rattle.omaha_commands.specs.Failures.{failure_string, is_declined};
 
 use crate::history_fault::HistoryFault;
 use catalogue::Refused;
+use certificates::Fault as CertificateFault;
 use omaha_json::RequestFault;
 use package_files::{DescribeError, Lack, Lacking};
-use price_cert::Fault as CertificateFault;
 use profile_toml::ProfileFault;
 use std::alloc::AllocError;
 use std::error::Error;

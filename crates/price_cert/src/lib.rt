@@ -1,4 +1,4 @@
-//! Tables of prices, the check that makes sure that each price is the least sum of bytes, and what such prices say.
+//! Tables of prices, and the check that makes sure that each price is the least sum of bytes.
 //!
 //! A table, `Prices`, has a `Row` for each release of an app. `check` tests four rules in each row against the graph of
 //! the table's track. A table that passes is `Certified`: each of its prices is the least sum of bytes over all chains
@@ -13,31 +13,24 @@
 //! Several threads can share the work of the check: `passes` is the quick test, `broken_at` tests a row, `check_pair`
 //! and `check_row` test parts of one, and `into_certified` makes a `Certified` of a table that was found right.
 //!
-//! `certificates` writes a table as lines that anybody can check, and reads them back. `quotes` has what a certified
-//! table says of a catalogue: the first payload of a least chain from where a client is. The check itself reads
-//! neither.
-//!
-//! It does not find prices: whoever does is checked here.
+//! It does not find prices: whoever does is checked here. It speaks of a graph alone: what a table says of a catalogue
+//! is in `quotes`, and how it is written as lines in `certificates`.
 
 #![tactic(auto)]
 
 mod best;
-pub mod certificates;
 mod certified;
 mod kept;
 pub mod laws;
 mod parts;
 mod passing;
-pub mod quotes;
 mod row;
 mod rules;
 mod windows;
 
-pub use crate::certificates::{Fault, read_key, read_prices, write_prices};
 pub use crate::certified::{Certified, check, into_certified};
 pub use crate::parts::{check_pair, check_row};
 pub use crate::passing::passes;
-pub use crate::quotes::{Quote, quote_at, quote_from};
 pub use crate::row::{Prices, Row};
 pub use crate::rules::{Rule, Wrong, broken_at};
 pub use crate::windows::{best_above, best_below, best_row, best_to_target};

@@ -14,8 +14,8 @@ use Rattle.payload_graph.specs.declared.payload.TrackKey.{TrackKey}
 use Rattle.payload_graph.specs.declared.place.Place.{Place}
 use Rattle.payload_graph.specs.declared.place.Place.TheVariants.{At}
 use Rattle.payload_graph.specs.Net.{net_among, net_in, net_of}
-use Rattle.price_cert.specs.Quotes.{IsQuote, IsQuoteAmong}
-use Rattle.price_cert.specs.declared.quotes.quote.Quote.TheVariants.{Next}
+use Rattle.quotes.specs.Quotes.{IsQuote, IsQuoteAmong}
+use Rattle.quotes.specs.declared.quote.Quote.TheVariants.{Next}
 use Rattle.replies.proofs.ZipLemmas.{AllZip-at}
 use Rattle.replies.specs.Clients.{Client, IsAssigned, IsInCohort, client_in, client_of, track_by}
 use Rattle.replies.specs.Plans.{IsAssignedChoice, IsChoice, IsChoiceAmong, IsChosen, IsClientChoice, IsTrackChoice, wants_update}

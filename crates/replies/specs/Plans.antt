@@ -14,8 +14,8 @@ use Rattle.payload_graph.specs.declared.place.Place.{Place}
 use Rattle.payload_graph.specs.Net.{net_among}
 use Rattle.price_cert.specs.Tables.{Certificate}
 use Rattle.par_tables.specs.Tables.{IsTable}
-use Rattle.price_cert.specs.Quotes.{IsFirst}
-use Rattle.price_cert.specs.Sums.{HasNoChain}
+use Rattle.quotes.specs.Quotes.{IsFirst}
+use Rattle.quotes.specs.Sums.{HasNoChain}
 use Rattle.replies.specs.Clients.{Client, IsAssigned, client_of, is_pinned, key_of}
 use Rattle.replies.specs.declared.choices.Choice.{Choice}
 use Rattle.replies.specs.declared.choices.Plan.{Plan}

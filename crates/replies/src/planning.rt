@@ -23,7 +23,8 @@ use editions::Edition;
 use omaha_json::{AppAsk, Request};
 use par_tables::TableCache;
 use payload_graph::{Payload, Place, TrackKey, place_of};
-use price_cert::{Certified, Quote, quote_from};
+use price_cert::Certified;
+use quotes::{Quote, quote_from};
 use std::alloc::{AllocError, Global};
 use values::Items;
 

@@ -6,8 +6,8 @@ use Rattle.std.specs.Option.{option_map_or}
 use Rattle.serde_json.specs.Data.{Data, boolean, member, no_members, null, number, object, string, unsigned}
 use Rattle.serde_json.specs.Written.{compact_text}
 use Rattle.catalogue.specs.declared.content.App.{App}
-use Rattle.price_cert.specs.declared.quotes.quote.Quote.{Quote}
-use Rattle.price_cert.specs.declared.quotes.quote.Quote.TheVariants as quote
+use Rattle.quotes.specs.declared.quote.Quote.{Quote}
+use Rattle.quotes.specs.declared.quote.Quote.TheVariants as quote
 use Rattle.review_reports.specs.Lines.{lane_word}
 use Rattle.reviews.specs.Names.{cohort_name, reason_string, spelled_at}
 use Rattle.review_reports.specs.ReviewLines.{bytes_from, clients_on, release_total, steps_from, stuck_of, stuck_total}

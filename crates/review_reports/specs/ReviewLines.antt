@@ -4,8 +4,8 @@ use Rattle.std.specs.List.{count_by, enumerate_from, flat_map}
 use Rattle.std.specs.Option.{option_map_or}
 use Rattle.catalogue.specs.declared.content.App.{App}
 use Rattle.payload_graph.specs.declared.payload.TrackKey.{TrackKey}
-use Rattle.price_cert.specs.declared.quotes.quote.Quote.{Quote}
-use Rattle.price_cert.specs.declared.quotes.quote.Quote.TheVariants as quote
+use Rattle.quotes.specs.declared.quote.Quote.{Quote}
+use Rattle.quotes.specs.declared.quote.Quote.TheVariants as quote
 use Rattle.reviews.specs.Largest.{sum_of, value_at}
 use Rattle.review_reports.specs.Lines.{largest_word, line_string, longest_word, new_word, stuck_release, stuck_word, track_string, track_word}
 use Rattle.reviews.specs.Names.{spelled_at}

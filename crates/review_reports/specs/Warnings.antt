@@ -3,8 +3,8 @@ use Rattle.std.specs.Prelude.{ℕ, ◌&&◌, ◌||◌, not, Bool, true, false, i
 use Rattle.std.specs.List.{flat_map, list_any}
 use Rattle.std.specs.Option.{option_map_or}
 use Rattle.catalogue.specs.declared.content.App.{App}
-use Rattle.price_cert.specs.declared.quotes.quote.Quote.{Quote}
-use Rattle.price_cert.specs.declared.quotes.quote.Quote.TheVariants as quote
+use Rattle.quotes.specs.declared.quote.Quote.{Quote}
+use Rattle.quotes.specs.declared.quote.Quote.TheVariants as quote
 use Rattle.reviews.specs.Names.{cohort_name, spelled_at}
 use Rattle.reviews.specs.declared.outcome.Outcome.{Outcome}
 use Rattle.reviews.specs.declared.outcome.Outcome.TheVariants.{Here, Next, Stuck}

@@ -9,7 +9,7 @@ use crate::members::{Member, push_object};
 use crate::review_lines::{bytes_from, clients_on, steps_from};
 use crate::stuck::{StuckRelease, count_stuck, release_total, stuck_of, stuck_total};
 use catalogue::{App, Catalogue};
-use price_cert::Quote;
+use quotes::Quote;
 use reviews::{Largest, Reason, TrackReview, cohort_name, spelled_at};
 use std::alloc::{AllocError, Global};
 

@@ -8,7 +8,7 @@ use crate::line::{find_app, push_line, stuck_release, track_string};
 use crate::stuck::{StuckRelease, count_stuck, first_of, stuck_of, stuck_total, totals_string};
 use catalogue::{App, Catalogue};
 use payload_graph::TrackKey;
-use price_cert::Quote;
+use quotes::Quote;
 use reviews::{Largest, Outcome, TrackReview, spelled_at};
 use std::alloc::{AllocError, Global};
 

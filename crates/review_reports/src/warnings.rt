@@ -6,7 +6,7 @@ ghost use Rattle.review_reports.specs.Warnings.{has_next, has_no_chain, is_out_o
 
 use crate::line::find_app;
 use catalogue::{App, Catalogue};
-use price_cert::Quote;
+use quotes::Quote;
 use reviews::{Outcome, TrackReview, cohort_name, spelled_at};
 use std::alloc::{AllocError, Global};
 

@@ -20,10 +20,10 @@ use Rattle.price_cert.specs.Rules.{AreCertified}
 use Rattle.price_cert.specs.Tables.{Certificate}
 use Rattle.price_cert.specs.declared.row.Row.{Row}
 use Rattle.price_cert.specs.declared.row.Row.TheVariants as row
-use Rattle.price_cert.specs.Quotes.{IsQuote, IsQuoteAmong}
-use Rattle.price_cert.specs.Sums.{IsPriceOf, PricesAreLeastOnTracks}
-use Rattle.price_cert.specs.declared.quotes.quote.Quote.{Quote}
-use Rattle.price_cert.specs.declared.quotes.quote.Quote.TheVariants as quote
+use Rattle.quotes.specs.Quotes.{IsQuote, IsQuoteAmong}
+use Rattle.quotes.specs.Sums.{IsPriceOf, PricesAreLeastOnTracks}
+use Rattle.quotes.specs.declared.quote.Quote.{Quote}
+use Rattle.quotes.specs.declared.quote.Quote.TheVariants as quote
 use Rattle.reviews.proofs.ChainLemmas.{length-doors_of}
 use Rattle.reviews.specs.Reasons.{Explains, IsReason, IsStuck}
 use Rattle.reviews.proofs.ListLemmas.{map-mapped}

@@ -6,7 +6,7 @@ use Rattle.payload_graph.specs.declared.payload.Payload.{Payload}
 use Rattle.payload_graph.specs.declared.payload.TrackKey.{TrackKey}
 use Rattle.payload_graph.specs.declared.place.Place.{Place}
 use Rattle.payload_graph.specs.declared.place.Place.TheVariants.{At}
-use Rattle.price_cert.specs.Sums.{HasNoChain}
+use Rattle.quotes.specs.Sums.{HasNoChain}
 use Rattle.reviews.specs.Lifts.{lifted, lifted_key}
 use Rattle.reviews.specs.declared.cause.Cause.{Cause}
 use Rattle.reviews.specs.declared.cause.Cause.TheVariants.{Withdrawn, Audience, Stone, Floor, Downgrade}

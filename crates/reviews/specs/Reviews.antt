@@ -10,9 +10,9 @@ use Rattle.par_tables.specs.Tables.{nets_of}
 use Rattle.par_tables.specs.Tracks.{keys_of}
 use Rattle.price_cert.specs.declared.row.Row.{Row}
 use Rattle.price_cert.specs.declared.row.Row.TheVariants as row
-use Rattle.price_cert.specs.Quotes.{IsQuote}
-use Rattle.price_cert.specs.declared.quotes.quote.Quote.{Quote}
-use Rattle.price_cert.specs.declared.quotes.quote.Quote.TheVariants as quote
+use Rattle.quotes.specs.Quotes.{IsQuote}
+use Rattle.quotes.specs.declared.quote.Quote.{Quote}
+use Rattle.quotes.specs.declared.quote.Quote.TheVariants as quote
 use Rattle.reviews.specs.Largest.{IsLargest, sum_of}
 use Rattle.reviews.specs.Reasons.{IsReason, IsStuck}
 use Rattle.reviews.specs.Steps.{all_steps}

@@ -5,7 +5,7 @@ ghost use Rattle.reviews.specs.Reviews.{is_stuck, outcome_by};
 
 use crate::cause::Reason;
 use payload_graph::Payload;
-use price_cert::Quote;
+use quotes::Quote;
 
 /// Where the clients of a track at a release are.
 #[derive(Clone, Copy)]

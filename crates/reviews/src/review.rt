@@ -17,7 +17,8 @@ use crate::steps::all_steps;
 use catalogue::{Catalogue, Version, lookup};
 use cohorts::track_target;
 use payload_graph::{Place, TrackKey};
-use price_cert::{Certified, Quote, Row, quote_at, quote_from};
+use price_cert::{Certified, Row};
+use quotes::{Quote, quote_at, quote_from};
 use std::alloc::{AllocError, Global};
 use values::SharedItems;
 
@@ -111,7 +112,7 @@ fn find_reasons(
     requires table { net_among catalogue.now subject.now.key.now ≡ Some table.now.net }
     ensures { IfOk result (λ reasons. Explains subject.now.app.now subject.now.key.now reasons.items) }
 {
-    price_cert::quotes::laws::least();
+    quotes::laws::least();
     let rows = table.rows();
     if !has_unpriced(rows) {
         return Ok(Vec::new(alloc));

@@ -9,8 +9,8 @@ use Rattle.payload_graph.specs.declared.payload.Payload.{Payload}
 use Rattle.payload_graph.specs.declared.payload.TrackKey.{TrackKey}
 use Rattle.payload_graph.specs.declared.place.Place.{Place}
 use Rattle.payload_graph.specs.declared.place.Place.TheVariants.{At}
-use Rattle.price_cert.specs.Quotes.{Begins}
-use Rattle.price_cert.specs.Sums.{IsPriceOf}
+use Rattle.quotes.specs.Quotes.{Begins}
+use Rattle.quotes.specs.Sums.{IsPriceOf}
 use Rattle.theorems.proofs.ChainLemmas.{IsLeast-one}
 use Rattle.theorems.proofs.YieldLemmas.{IsBefore, IsBefore-total, IsBefore-trans, score}
 use Rattle.theorems.proofs.PickLemmas.{pick}

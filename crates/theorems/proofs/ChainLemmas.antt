@@ -7,7 +7,7 @@ use Rattle.payload_graph.specs.declared.payload.Payload.{Payload}
 use Rattle.payload_graph.specs.declared.payload.TrackKey.{TrackKey}
 use Rattle.payload_graph.specs.declared.place.Place.{Place}
 use Rattle.payload_graph.specs.declared.place.Place.TheVariants.{At}
-use Rattle.price_cert.specs.Sums.{HasNoChain, IsLeast}
+use Rattle.quotes.specs.Sums.{HasNoChain, IsLeast}
 
 module _ (app : App) (key : TrackKey) where
   -- the target of a track

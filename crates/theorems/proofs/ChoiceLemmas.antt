@@ -13,8 +13,8 @@ use Rattle.payload_graph.specs.declared.payload.Payload.{Payload}
 use Rattle.payload_graph.specs.declared.payload.TrackKey.{TrackKey}
 use Rattle.payload_graph.specs.declared.place.Place.{Place}
 use Rattle.payload_graph.specs.declared.place.Place.TheVariants.{At, Outside}
-use Rattle.price_cert.specs.Quotes.{Begins, IsFirst}
-use Rattle.price_cert.specs.Sums.{IsPriceOf}
+use Rattle.quotes.specs.Quotes.{Begins, IsFirst}
+use Rattle.quotes.specs.Sums.{IsPriceOf}
 use Rattle.replies.specs.Plans.{IsChoice}
 use Rattle.replies.specs.declared.choices.Choice.{Choice}
 use Rattle.theorems.proofs.ChainLemmas.{HasNoChain-no_target, IsAtTarget-index, IsLeast-target, index-IsAtTarget}

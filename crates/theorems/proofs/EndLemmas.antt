@@ -16,7 +16,7 @@ use Rattle.omaha_json.specs.declared.request.AppAsk.{AppAsk}
 use Rattle.payload_graph.specs.Chains.{IsChain}
 use Rattle.payload_graph.specs.declared.payload.Payload.{Payload}
 use Rattle.payload_graph.specs.declared.place.Place.{Place}
-use Rattle.price_cert.specs.Sums.{HasNoChain}
+use Rattle.quotes.specs.Sums.{HasNoChain}
 use Rattle.replies.specs.Clients.{Client, client_of, key_of}
 use Rattle.theorems.specs.Asks.{IsAskOf, IsReplyTo, check_in, place_at}
 use Rattle.theorems.specs.Laws.{offered}

@@ -18,10 +18,10 @@ use Rattle.payload_graph.specs.declared.place.Place.{Place}
 use Rattle.payload_graph.specs.declared.place.Place.TheVariants.{At, Outside}
 use Rattle.price_cert.specs.Rules.{AreCertified, broken_at}
 use Rattle.price_cert.specs.declared.row.Row.{Row}
-use Rattle.price_cert.specs.ByRows.{CertifiedRowsQuote, quote_by_rows}
-use Rattle.price_cert.specs.Quotes.{IsQuote}
-use Rattle.price_cert.specs.declared.quotes.quote.Quote.{Quote}
-use Rattle.price_cert.specs.declared.quotes.quote.Quote.TheVariants.{Here, Next, NoChain}
+use Rattle.quotes.specs.ByRows.{CertifiedRowsQuote, quote_by_rows}
+use Rattle.quotes.specs.Quotes.{IsQuote}
+use Rattle.quotes.specs.declared.quote.Quote.{Quote}
+use Rattle.quotes.specs.declared.quote.Quote.TheVariants.{Here, Next, NoChain}
 use Rattle.catalogue.specs.Validity.{IsValid}
 use Rattle.catalogue.specs.declared.content.App.{App}
 use Rattle.catalogue.specs.declared.content.Cohort.{Cohort}

@@ -12,7 +12,7 @@ use Rattle.catalogue.specs.Histories.{HistoriesAreValid, HistoriesGrow, History,
 use Rattle.editions.specs.Editions.{max_batches, outcome_after}
 use Rattle.mirror_ledger.specs.Asks.{booked}
 use Rattle.mirror_books.specs.Budgets.{Account}
-use Rattle.price_cert.specs.ByRows.{CertifiedRowsQuote}
+use Rattle.quotes.specs.ByRows.{CertifiedRowsQuote}
 use Rattle.catalogue.specs.declared.content.App.{App}
 use Rattle.catalogue.specs.declared.mirror.Mirror.{Mirror}
 use Rattle.theorems.specs.Laws.{TrackGraphsAreGraphs}

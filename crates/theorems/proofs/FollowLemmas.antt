@@ -11,7 +11,7 @@ use Rattle.omaha_json.specs.declared.request.AppAsk.{AppAsk}
 use Rattle.payload_graph.specs.Chains.{IsAtTarget, destination_of}
 use Rattle.payload_graph.specs.declared.place.Place.{Place}
 use Rattle.payload_graph.specs.declared.place.Place.TheVariants.{At}
-use Rattle.price_cert.specs.Sums.{IsLeast}
+use Rattle.quotes.specs.Sums.{IsLeast}
 use Rattle.replies.specs.Clients.{Client, key_of}
 use Rattle.theorems.specs.Asks.{IsAskOf, offered_bytes, place_at}
 use Rattle.theorems.specs.Walks.{IsWalk, last_ask, offers_of, sum_of}

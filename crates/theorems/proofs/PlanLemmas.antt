@@ -20,7 +20,7 @@ use Rattle.price_cert.specs.Rules.{AreCertified, broken_at}
 use Rattle.price_cert.specs.Tables.{Certificate}
 use Rattle.price_cert.specs.declared.row.Row.{Row}
 use Rattle.price_cert.specs.declared.rules.Rule.{Rule}
-use Rattle.price_cert.specs.ByRows.{CertifiedRowsQuote}
+use Rattle.quotes.specs.ByRows.{CertifiedRowsQuote}
 use Rattle.catalogue.specs.declared.content.App.{App}
 use Rattle.replies.specs.Clients.{Client, is_pinned, key_of}
 use Rattle.replies.specs.Plans.{HasTable, client_to_update, pinned_key}

@@ -9,7 +9,7 @@ use Rattle.omaha_json.specs.declared.request.AppAsk.{AppAsk}
 use Rattle.omaha_json.specs.declared.request.Request.{Request}
 use Rattle.payload_graph.specs.Net.{Net}
 use Rattle.price_cert.specs.declared.row.Row.{Row}
-use Rattle.price_cert.specs.ByRows.{CertifiedRowsQuote}
+use Rattle.quotes.specs.ByRows.{CertifiedRowsQuote}
 use Rattle.catalogue.specs.Validity.{IsValid}
 use Rattle.catalogue.specs.declared.content.App.{App}
 use Rattle.replies.specs.Clients.{Client, key_of}

@@ -6,7 +6,7 @@ use Rattle.std.proofs.lemmas.List.Elements.{Contains-append_left, Contains-appen
 use Rattle.std.proofs.lemmas.List.Sums.{sum_by-cons}
 use Rattle.catalogue.specs.declared.edit.Edit.{Edit}
 use Rattle.catalogue.specs.Histories.{HistoriesAreValid, HistoriesGrow, History, PrefixesAreAccepted}
-use Rattle.price_cert.specs.ByRows.{CertifiedRowsQuote}
+use Rattle.quotes.specs.ByRows.{CertifiedRowsQuote}
 use Rattle.catalogue.specs.declared.mirror.Mirror.{Mirror}
 use Rattle.theorems.specs.Laws.{TrackGraphsAreGraphs}
 use Rattle.theorems.specs.Events.{Event, Machine, happens, run, service_after}

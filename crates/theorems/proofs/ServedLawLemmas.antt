@@ -8,7 +8,7 @@ use Rattle.omaha_json.specs.ReplyWriting.{reply_bytes}
 use Rattle.omaha_json.specs.ReplyReading.{reply_of_bytes}
 use Rattle.omaha_json.specs.Soundness.{IsSound}
 use Rattle.payload_graph.specs.Chains.{IsAtTarget}
-use Rattle.price_cert.specs.Sums.{IsLeast}
+use Rattle.quotes.specs.Sums.{IsLeast}
 use Rattle.editions.specs.Editions.{content_of}
 use Rattle.catalogue.specs.Histories.{HistoriesAreValid}
 use Rattle.theorems.proofs.HistoryLemmas.{IsValid-content}

@@ -13,7 +13,7 @@ use Rattle.omaha_json.specs.declared.reply.Offer.{Offer}
 use Rattle.omaha_json.specs.declared.request.AppAsk.{AppAsk}
 use Rattle.payload_graph.specs.Chains.{IsAtTarget, destination_of}
 use Rattle.payload_graph.specs.Places.{place_of}
-use Rattle.price_cert.specs.Sums.{HasNoChain}
+use Rattle.quotes.specs.Sums.{HasNoChain}
 use Rattle.replies.specs.Clients.{Client, key_of}
 use Rattle.replies.specs.Plans.{IsClientChoice, payload_in}
 use Rattle.replies.specs.Replies.{app_reply, update_reply, with_check}

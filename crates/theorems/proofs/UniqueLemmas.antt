@@ -24,7 +24,7 @@ use Rattle.payload_graph.specs.declared.payload.Payload.{Payload}
 use Rattle.payload_graph.specs.declared.payload.Payload.TheVariants.{Full, Differ}
 use Rattle.payload_graph.specs.declared.payload.TrackKey.{TrackKey}
 use Rattle.payload_graph.specs.declared.place.Place.{Place}
-use Rattle.price_cert.specs.Quotes.{Begins, yields}
+use Rattle.quotes.specs.Quotes.{Begins, yields}
 use Rattle.editions.specs.Editions.{content_of}
 use Rattle.replies.specs.Clients.{Client, client_of, key_of}
 use Rattle.replies.specs.Plans.{IsChoice, IsChosen, IsClientChoice, IsOffer, client_to_update, wants_update}

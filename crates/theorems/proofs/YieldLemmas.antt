@@ -5,7 +5,7 @@ use Rattle.catalogue.specs.declared.content.App.{App}
 use Rattle.payload_graph.specs.Chains.{destination_of}
 use Rattle.payload_graph.specs.declared.payload.Payload.{Payload}
 use Rattle.payload_graph.specs.declared.payload.Payload.TheVariants.{Full, Differ}
-use Rattle.price_cert.specs.Quotes.{yields}
+use Rattle.quotes.specs.Quotes.{yields}
 
 -- the destination counts first, then whether it is a differential
 abbrev pub rank_of : Payload → ℕ

@@ -9,9 +9,9 @@ use Rattle.payload_graph.specs.Net.{Net, net_in}
 use Rattle.price_cert.specs.Rules.{broken_at}
 use Rattle.price_cert.specs.Tables.{Certificate}
 use Rattle.price_cert.specs.declared.row.Row.{Row}
-use Rattle.price_cert.specs.ByRows.{quote_by_rows}
-use Rattle.price_cert.specs.declared.quotes.quote.Quote.{Quote}
-use Rattle.price_cert.specs.declared.quotes.quote.Quote.TheVariants.{Here, Next, NoChain}
+use Rattle.quotes.specs.ByRows.{quote_by_rows}
+use Rattle.quotes.specs.declared.quote.Quote.{Quote}
+use Rattle.quotes.specs.declared.quote.Quote.TheVariants.{Here, Next, NoChain}
 use Rattle.catalogue.specs.declared.content.App.{App}
 use Rattle.replies.specs.Clients.{Client, key_of}
 use Rattle.replies.specs.Plans.{client_to_update}

@@ -6,7 +6,7 @@ use Rattle.omaha_json.specs.declared.reply.AppReply.{AppReply}
 use Rattle.omaha_json.specs.declared.reply.Offer.{Offer}
 use Rattle.omaha_json.specs.declared.request.AppAsk.{AppAsk}
 use Rattle.payload_graph.specs.Chains.{IsAtTarget}
-use Rattle.price_cert.specs.Sums.{IsLeast}
+use Rattle.quotes.specs.Sums.{IsLeast}
 use Rattle.catalogue.specs.declared.content.App.{App}
 use Rattle.catalogue.specs.declared.mirror.Mirror.{Mirror}
 use Rattle.replies.specs.Clients.{Client, key_of}

@@ -18,7 +18,7 @@ use Rattle.payload_graph.specs.declared.payload.Payload.{Payload}
 use Rattle.payload_graph.specs.declared.payload.TrackKey.{TrackKey}
 use Rattle.payload_graph.specs.declared.place.Place.TheVariants.{At}
 use Rattle.price_cert.specs.Laws.{IsGraph}
-use Rattle.price_cert.specs.Sums.{HasNoChain, IsLeast}
+use Rattle.quotes.specs.Sums.{HasNoChain, IsLeast}
 use Rattle.editions.specs.Editions.{content_of}
 use Rattle.replies.specs.Clients.{Client, client_of, key_of}
 use Rattle.replies.specs.Plans.{IsChosen, IsPlan, payload_in, payloads_of}

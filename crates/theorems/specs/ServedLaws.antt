@@ -9,7 +9,7 @@ use Rattle.catalogue.specs.Histories.{History}
 use Rattle.omaha_json.specs.declared.reply.AppReply.{AppReply}
 use Rattle.payload_graph.specs.Chains.{IsAtTarget, IsChain}
 use Rattle.payload_graph.specs.declared.payload.Payload.{Payload}
-use Rattle.price_cert.specs.Sums.{HasNoChain, IsLeast}
+use Rattle.quotes.specs.Sums.{HasNoChain, IsLeast}
 use Rattle.editions.specs.Editions.{content_of}
 use Rattle.replies.specs.Clients.{Client, client_of, key_of}
 use Rattle.theorems.specs.Asks.{place_at}

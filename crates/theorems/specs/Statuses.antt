@@ -9,8 +9,8 @@ use Rattle.omaha_json.specs.declared.reply.Offer.{Offer}
 use Rattle.omaha_json.specs.declared.request.AppAsk.{AppAsk}
 use Rattle.payload_graph.specs.Chains.{IsAtTarget, bytes_of}
 use Rattle.payload_graph.specs.declared.payload.Payload.{Payload}
-use Rattle.price_cert.specs.Quotes.{IsFirst}
-use Rattle.price_cert.specs.Sums.{HasNoChain}
+use Rattle.quotes.specs.Quotes.{IsFirst}
+use Rattle.quotes.specs.Sums.{HasNoChain}
 use Rattle.replies.specs.Clients.{Client, key_of}
 use Rattle.replies.specs.Replies.{codebase_at, diff_of, offer_of, release_by}
 use Rattle.theorems.specs.Asks.{offered_bytes, place_at}

@@ -9,10 +9,11 @@ ghost use Rattle.omaha_commands.specs.Certificates.{Certifies, IsCertificateOf};
 use crate::reports::names::key_named;
 use crate::reports::tables::table_of;
 use catalogue::Catalogue;
+use certificates::{Fault, write_prices};
 use cohorts::TrackNames;
 use editions::Edition;
 use payload_graph::TrackKey;
-use price_cert::{Certified, Fault, write_prices};
+use price_cert::Certified;
 use std::alloc::{AllocError, Global};
 use values::ReadError;
 

@@ -4,16 +4,16 @@ ghost use Rattle.std.specs.Prelude.{◌≡◌, ◌<◌, IfErr, IfOk, IfSome, Ok,
 ghost use Rattle.catalogue.specs.Lookups.{releases_at};
 ghost use Rattle.cohorts.specs.declared.pin.Pin.TheVariants as pin;
 ghost use Rattle.payload_graph.specs.Net.{net_among};
-ghost use Rattle.price_cert.specs.Strings.{spelled_at};
+ghost use Rattle.certificates.specs.Strings.{spelled_at};
 ghost use Rattle.editions.specs.Editions.{content_of};
 ghost use Rattle.omaha_commands.specs.Certificates.{IsJudged, Verifies, table_net};
 
 use crate::reports::checking::check_parallel;
 use crate::reports::tables::table_of;
 use catalogue::Catalogue;
+use certificates::{Fault, read_key, read_prices};
 use editions::Edition;
 use payload_graph::{Graph, TrackKey};
-use price_cert::{Fault, read_key, read_prices};
 use std::alloc::{AllocError, Global};
 use std::thread::Threads;
 use values::{ReadError, Text};

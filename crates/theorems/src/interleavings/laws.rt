@@ -41,7 +41,7 @@ pub fn every_interleaving()
     catalogue::histories::growth();
     catalogue::histories::prefixes();
     catalogue::histories::validity();
-    price_cert::quotes::laws::rows();
+    quotes::laws::rows();
     crate::laws::graphs();
 }
 
@@ -60,7 +60,7 @@ pub fn publishing()
     catalogue::histories::growth();
     catalogue::histories::prefixes();
     catalogue::histories::validity();
-    price_cert::quotes::laws::rows();
+    quotes::laws::rows();
     crate::laws::graphs();
 }
 
@@ -106,7 +106,7 @@ pub fn plans()
     ensures { PlansAreByPrices }
 {
     catalogue::histories::validity();
-    price_cert::quotes::laws::rows();
+    quotes::laws::rows();
     par_tables::laws::tracks();
     crate::laws::graphs();
     crate::laws::plans();
@@ -174,7 +174,7 @@ pub fn worker_calls()
     ensures { WorkerCallsAreEvents }
 {
     catalogue::histories::validity();
-    price_cert::quotes::laws::rows();
+    quotes::laws::rows();
     crate::laws::graphs();
     crate::laws::plans();
     crate::interleavings::laws::certified();
@@ -187,7 +187,7 @@ pub fn lone_calls()
     ensures { LoneCallsAreForRoom }
 {
     catalogue::histories::validity();
-    price_cert::quotes::laws::rows();
+    quotes::laws::rows();
     crate::laws::graphs();
     crate::laws::plans();
     crate::interleavings::laws::certified();

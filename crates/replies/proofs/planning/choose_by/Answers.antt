@@ -1,8 +1,8 @@
 use Rattle.std.proofs.Common.{Some, sym, ap, ◌∙◌, subst}
 use Rattle.std.proofs.lemmas.Option.{slice_get-get_or}
 use Rattle.catalogue.specs.declared.content.App.{App}
-use Rattle.price_cert.specs.Quotes.{IsQuoteAmong}
-use Rattle.price_cert.specs.declared.quotes.quote.Quote.{Quote}
+use Rattle.quotes.specs.Quotes.{IsQuoteAmong}
+use Rattle.quotes.specs.declared.quote.Quote.{Quote}
 use Rattle.replies.proofs.PlanLemmas.{IsChoice-next}
 use Rattle.replies.proofs.planning.choose_by.Goals as goal
 

@@ -1,0 +1,13 @@
+mod BackLemmas
+mod CutLemmas
+mod EntryLemmas
+mod LengthLemmas
+mod NumberLemmas
+mod ReadingLemmas
+mod SpelledLemmas
+mod StatedLemmas
+mod TrackLemmas
+mod VisibleLemmas
+mod WritingLemmas
+mod WrittenLemmas
+mod WrittenTrackLemmas

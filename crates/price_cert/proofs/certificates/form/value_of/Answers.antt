@@ -1,7 +1,0 @@
-use Rattle.std.proofs.Common.{◌∙◌}
-use Rattle.price_cert.proofs.NumberLemmas.{value_of-parse}
-use Rattle.price_cert.proofs.certificates.form.value_of.Goals as goal
-
-pub returns : goal.returns
-returns c =
-    c.ok.ensures.value ∙ value_of-parse c.args.digits.now c.parse.result c.parse.ensures.value.0 c.requires

@@ -1,5 +1,0 @@
-use Rattle.price_cert.proofs.WrittenTrackLemmas.{written_is_read}
-use Rattle.price_cert.proofs.certificates.laws.written_is_read.Goals as goal
-
-pub returns : goal.returns
-returns c = written_is_read c.order.ensures.irreflexive

@@ -1,5 +1,0 @@
-use Rattle.price_cert.proofs.ChainLemmas.{prices_are_least_on_tracks}
-use Rattle.price_cert.proofs.quotes.laws.least.Goals as goal
-
-pub returns : goal.returns
-returns c = prices_are_least_on_tracks c.order.ensures.irreflexive c.fulls.ensures c.differs.ensures

@@ -1,0 +1,14 @@
+mod AmongLemmas
+mod ByRowLemmas
+mod ChainLemmas
+mod MemberLemmas
+mod NamedLemmas
+mod OutsideAmongLemmas
+mod OutsideLemmas
+mod PayloadLemmas
+mod QuoteBestLemmas
+mod QuoteLemmas
+mod QuoteTrackLemmas
+mod SameVersionLemmas
+mod VisitorLemmas
+mod WindowLemmas

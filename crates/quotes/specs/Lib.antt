@@ -1,0 +1,4 @@
+pub mod ByRows
+pub mod Outside
+pub mod Quotes
+pub mod Sums
