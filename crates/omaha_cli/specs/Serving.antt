@@ -6,12 +6,13 @@ use Rattle.omaha_arguments.specs.declared.command.Serve.{Serve}
 use Rattle.etcd_records.specs.Paths.{is_etcd_path}
 use Rattle.systems.specs.Edges.{Edges}
 use Rattle.omaha_server.specs.Checks.{IsStockedFor}
-use Rattle.omaha_server.specs.Logging.{AreLogged, IsLoggedHere}
-use Rattle.omaha_server.specs.Passages.{Passages}
-use Rattle.omaha_server.specs.Serving.{IsEarly, IsLogged, LogsElsewhere, Serves}
-use Rattle.omaha_server.specs.declared.error.ServerError.{ServerError}
-use Rattle.omaha_server.specs.declared.error.ServerError.TheVariants as server
-use Rattle.omaha_server.specs.declared.place.Place.{Place}
+use Rattle.server_ports.specs.Logging.{AreLogged, IsLoggedHere, LogsElsewhere}
+use Rattle.server_ports.specs.Passages.{Passages}
+use Rattle.server_ports.specs.Errors.{IsEarly}
+use Rattle.omaha_server.specs.Serving.{IsLogged, Serves}
+use Rattle.server_ports.specs.declared.error.ServerError.{ServerError}
+use Rattle.server_ports.specs.declared.error.ServerError.TheVariants as server
+use Rattle.server_ports.specs.declared.place.Place.{Place}
 use Rattle.service_desks.specs.States.{store}
 use Rattle.omaha_commands.specs.Profiles.{Files}
 use Rattle.omaha_commands.specs.Streams.{Streams}

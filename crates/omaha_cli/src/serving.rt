@@ -3,7 +3,7 @@
 ghost use Rattle.std.specs.Prelude.{◌≡◌, ◌⊎◌, Err, IfOk, IfSome, option_map};
 ghost use Rattle.omaha_commands.specs.declared.failure.Failure.TheVariants.{Thread};
 ghost use Rattle.omaha_cli.specs.Serving.{EndsAs, IsAlone, IsHostedBy, IsPlaceOf, IsQuiet, IsUnbound, IsUnopened, ServesOn, followed_at, served_name};
-ghost use Rattle.omaha_server.specs.Serving.{IsSilent};
+ghost use Rattle.server_ports.specs.Logging.{IsSilent};
 ghost use Rattle.streams.specs.Streams.{Known};
 
 use etcd_records::is_etcd_path;

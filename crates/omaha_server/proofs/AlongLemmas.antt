@@ -16,11 +16,12 @@ use Rattle.replies.specs.Asking.{GrantsFirst}
 use Rattle.systems.specs.Edges.{Edges}
 use Rattle.package_files.specs.Lacking.{Sizes}
 use Rattle.omaha_server.specs.Checks.{ChecksCall, LeadsPast, sizes_at}
-use Rattle.omaha_server.specs.Serving.{AreOperated, DeskSteps, IsAsked, IsOperated, IsPassed, IsServedPort, IsWorkersPort, OperatorSteps, desk_path, desk_type, operator_path, operator_type}
+use Rattle.server_ports.specs.Served.{IsServedPort}
+use Rattle.omaha_server.specs.Serving.{AreOperated, DeskSteps, IsAsked, IsOperated, IsPassed, IsWorkersPort, OperatorSteps, desk_path, desk_type, operator_path, operator_type}
 use Rattle.omaha_server.specs.Overviews.{Overview}
 use Rattle.omaha_server.specs.Stopping.{IsEnding}
-use Rattle.omaha_server.specs.declared.place.Place.{Place}
-use Rattle.omaha_server.specs.declared.setup.Setup.{Setup}
+use Rattle.server_ports.specs.declared.place.Place.{Place}
+use Rattle.server_ports.specs.declared.setup.Setup.{Setup}
 
 -- each step keeps what holds of the state, and is a step of the part
 abbrev Follows :

@@ -2,8 +2,8 @@
 use Rattle.std.proofs.Common.{◌≡◌, ◌∙◌, ◌↔◌, ℕ, suc, ◌+◌, ◌<◌, Bool, true, false, List, [], ◌∷◌, ◌++◌, Option, Some, None, ap, append-nil, append_assoc, arith, if◌then◌else◌, is_some, length, option_to_list, refl, sym}
 use Rattle.std.proofs.lemmas.List.{length-append}
 use Rattle.access_logs.specs.Queues.{Sending}
-use Rattle.omaha_server.specs.Logging.{those_of}
-use Rattle.omaha_server.proofs.SenderLemmas.{those_of-more}
+use Rattle.server_ports.specs.Logging.{those_of}
+use Rattle.server_ports.proofs.SenderLemmas.{those_of-more}
 
 -- a port of a server whose replies are logged has a sender, and each other port none
 pub next_so :

@@ -3,8 +3,5 @@ mod CheckLemmas
 mod ChoiceLemmas
 mod ClientLemmas
 mod CountLemmas
-mod OutletLemmas
-mod PageLemmas
 mod RunLemmas
-mod SenderLemmas
 mod ShowLemmas

@@ -23,36 +23,55 @@ use Rattle.service_desks.specs.States.{Publication, Store}
 use Rattle.systems.specs.Edges.{Edges}
 use Rattle.access_logs.specs.Queues.{Ended as SenderEnd, Sending}
 use Rattle.omaha_server.specs.Jobs.{IsClients, IsManned}
-use Rattle.omaha_server.specs.Logging.{AreLogged, HasSent, senders_of}
-use Rattle.omaha_server.specs.Opening.{AreClientTerms, IsOperatorsPort, client_terms}
+use Rattle.server_ports.specs.Logging.{AreLogged, HasSent, senders_of}
+use Rattle.server_ports.specs.Opening.{AreClientTerms, IsOperatorsPort, client_terms}
 use Rattle.omaha_server.specs.OperatorPorts.{has_operator, terms_left}
-use Rattle.omaha_server.specs.Passages.{HaveAcceptedAll, Passages, passage_of, passages_of}
-use Rattle.omaha_server.specs.Places.{ArePorts}
+use Rattle.server_ports.specs.Passages.{HaveAcceptedAll, Passages, passage_of, passages_of}
+use Rattle.server_ports.specs.Places.{ArePorts}
 use Rattle.omaha_server.specs.Runs.{HasServed, HaveRun, IsPublished, PrintsLines}
-use Rattle.omaha_server.specs.Serving.{AreServed, AreTotals, IsOperated, IsReady, IsWorkersPort, PrintsTotals, Serves, ServesToEnd, begun, is_single, with_mirrors}
+use Rattle.server_ports.specs.Starts.{IsReady}
+use Rattle.omaha_server.specs.Serving.{AreServed, AreTotals, IsOperated, IsWorkersPort, PrintsTotals, Serves, ServesToEnd, begun, is_single, with_mirrors}
 use Rattle.omaha_server.specs.Overviews.{Overview, overview, overview_at}
 use Rattle.operator_pages.specs.declared.counts.Counts.{Counts}
 use Rattle.operator_pages.specs.declared.publishes.Publish.{Publish}
 use Rattle.service_desks.specs.Totals.{names_of, totals_string}
 use Rattle.omaha_server.specs.declared.clients.Clients.{Clients}
 use Rattle.omaha_server.specs.declared.clients.Visited.{Visited}
-use Rattle.omaha_server.specs.declared.error.ServerError.{ServerError}
-use Rattle.omaha_server.specs.declared.error.ServerError.TheVariants as server
-use Rattle.omaha_server.specs.declared.opening.Ports.{Ports}
+use Rattle.server_ports.specs.declared.error.ServerError.{ServerError}
+use Rattle.server_ports.specs.declared.error.ServerError.TheVariants as server
+use Rattle.server_ports.specs.declared.opening.Ports.{Ports}
 use Rattle.omaha_server.specs.declared.operating.Operated.{Operated}
 use Rattle.omaha_server.specs.declared.operating.Operating.{Operating}
-use Rattle.omaha_server.specs.declared.place.Place.{Place}
-use Rattle.omaha_server.specs.declared.ports.ServedPort.{ServedPort}
+use Rattle.server_ports.specs.declared.place.Place.{Place}
+use Rattle.server_ports.specs.declared.ports.ServedPort.{ServedPort}
 use Rattle.omaha_server.specs.declared.running.Ended.{Ended}
 use Rattle.omaha_server.specs.declared.running.Run.{Run}
 use Rattle.service_desks.specs.declared.services.service.Service.{Service}
-use Rattle.omaha_server.specs.declared.setup.Served.{Served}
-use Rattle.omaha_server.specs.declared.setup.Setup.{Setup}
+use Rattle.server_ports.specs.declared.setup.Served.{Served}
+use Rattle.server_ports.specs.declared.setup.Setup.{Setup}
 use Rattle.streams.specs.Streams.{Known}
 use Rattle.streams.specs.Writing.{Breaks}
 use Rattle.omaha_server.proofs.AlongLemmas.{Leads-operated, Leads-worked}
 use Rattle.omaha_server.proofs.ChoiceLemmas.{AllZip-by, chosen}
-use Rattle.omaha_server.proofs.SenderLemmas.{AreSame, ended-all, ends-each, logged-all}
+use Rattle.server_ports.proofs.SenderLemmas.{AreSame, ended-all, logged-all}
+
+-- each job that came to its end
+ends-each :
+    {J E : Type 0} (comes : J → List Ask → E → Type 0) (Is : J → E → Type 0) →
+    ((job : J) (asks : List Ask) (end : E) → comes job asks end → Is job end) →
+    (jobs : List J) (worked : List (List Ask × Result E J)) (ends : List E) →
+    AllZip (λ job its. WorksAs comes job its.0 its.1) jobs worked →
+    map (λ (its : List Ask × Result E J). its.1) worked ≡ map Ok ends → AllZip Is jobs ends
+ends-each comes Is is [] [] [] works same = tt
+ends-each comes Is is [] [] (end ∷ ends) works same = cc same
+ends-each comes Is is [] (its ∷ worked) ends works same = absurd works
+ends-each comes Is is (job ∷ jobs) [] ends works same = absurd works
+ends-each comes Is is (job ∷ jobs) (its ∷ worked) [] works same = cc same
+ends-each {J} {E} comes Is is (job ∷ jobs) (its ∷ worked) (end ∷ ends) works same =
+    let ended : its.1 ≡ Ok end = cc same in (
+      is job its.0 end (subst (λ (r : Result E J). WorksAs comes job its.0 r) ended works.0),
+      ends-each comes Is is jobs worked ends works.1 (cc same),
+    )
 
 -- an item of a list that was mapped
 pub get_or-mapped :

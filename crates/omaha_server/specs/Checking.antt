@@ -12,9 +12,9 @@ use Rattle.package_files.specs.declared.lacking.Lack.{Lack}
 use Rattle.package_files.specs.declared.lacking.Lacking.{Lacking}
 use Rattle.systems.specs.Edges.{Edges}
 use Rattle.omaha_server.specs.Checks.{HasPackages, IsRejected, IsStocked, LacksPackage, lacking_line}
-use Rattle.omaha_server.specs.declared.error.ServerError.{ServerError}
-use Rattle.omaha_server.specs.declared.error.ServerError.TheVariants as server
-use Rattle.omaha_server.specs.declared.place.Place.{Place}
+use Rattle.server_ports.specs.declared.error.ServerError.{ServerError}
+use Rattle.server_ports.specs.declared.error.ServerError.TheVariants as server
+use Rattle.server_ports.specs.declared.place.Place.{Place}
 
 -- the reply names the lacking package, unless memory runs out
 abbrev pub Names : List ℕ × Lack → Result (DeskStatus × List ℕ) Off → Type 0

@@ -12,9 +12,9 @@ use Rattle.package_files.specs.declared.lacking.Lack.{Lack}
 use Rattle.profile_toml.specs.Reading.{script_of_bytes}
 use Rattle.streams.specs.Streams.{Known}
 use Rattle.systems.specs.Edges.{Edges}
-use Rattle.omaha_server.specs.declared.error.ServerError.{ServerError}
-use Rattle.omaha_server.specs.declared.error.ServerError.TheVariants as server
-use Rattle.omaha_server.specs.declared.place.Place.{Place}
+use Rattle.server_ports.specs.declared.error.ServerError.{ServerError}
+use Rattle.server_ports.specs.declared.error.ServerError.TheVariants as server
+use Rattle.server_ports.specs.declared.place.Place.{Place}
 use Rattle.omaha_server.specs.Outcomes.{status_word, stop_word}
 
 -- the sizes of the files of a place's folder

@@ -6,11 +6,11 @@ use Rattle.access_logs.specs.Queues.{Sending}
 use Rattle.publisher.specs.Sights.{Sight, fresh}
 use Rattle.systems.specs.Capacities.{IsCapacity}
 use Rattle.systems.specs.Edges.{Edges}
-use Rattle.omaha_server.specs.Opening.{AreClientTerms, IsOperatorsPort}
+use Rattle.server_ports.specs.Opening.{AreClientTerms, IsOperatorsPort}
 use Rattle.omaha_server.specs.OperatorPorts.{has_operator, terms_left}
 use Rattle.omaha_server.specs.declared.clients.Clients.{Clients}
 use Rattle.omaha_server.specs.declared.operating.Operating.{Operating}
-use Rattle.omaha_server.specs.declared.setup.Setup.{Setup}
+use Rattle.server_ports.specs.declared.setup.Setup.{Setup}
 
 -- a worker's job, with a view
 pub record IsClients {S R P O : Type 0} (setup : Setup S R) (sight : Sight) (clients : Clients S R P O) : Type 0 where

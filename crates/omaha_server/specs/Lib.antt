@@ -1,13 +1,9 @@
 pub mod Checking
 pub mod Checks
 pub mod Jobs
-pub mod Logging
 pub mod Notes
-pub mod Opening
 pub mod OperatorPorts
 pub mod Outcomes
-pub mod Passages
-pub mod Places
 pub mod Runs
 pub mod Showing
 pub mod Serving

@@ -1,16 +1,10 @@
--- What a server says of itself on the standard error; this project's profile.
-use Rattle.std.specs.Prelude.{◌≢◌, ◌&&◌, ◌||◌, ℕ, All, Bool, List, ◌++◌, codes, decimal, bytes_eq, nat_eq, if◌then◌else◌, Option, None, Some, Result, Ok, Err}
+-- What a server says of its operator's calls on the standard error; this project's profile.
+use Rattle.std.specs.Prelude.{◌&&◌, ◌||◌, ℕ, Bool, List, codes, bytes_eq, nat_eq, if◌then◌else◌, Option, None, Some, Result, Ok, Err}
 use Rattle.std.specs.List.{starts_with}
 use Rattle.http_desks.specs.declared.desk.DeskStatus.{DeskStatus}
 use Rattle.http_desks.specs.declared.desk.DeskStatus.TheVariants as status
 use Rattle.http_desks.specs.declared.desk.Off.{Off}
 use Rattle.service_desks.specs.Following.{follow_word}
-use Rattle.streams.specs.Strings.{shown_string}
-use Rattle.omaha_server.specs.declared.notes.Serving.{Serving}
-
--- a line of the server
-abbrev pub note_line : List ℕ → List ℕ
-note_line said = codes "omaha: " ++ said ++ codes "\n"
 
 -- a reply of 200 of which nothing is said: a dump, and that there is nothing to adopt of other servers
 abbrev pub is_unsaid : List ℕ → List ℕ → Bool
@@ -26,31 +20,3 @@ note_of body (Ok (status.Conflict, line)) = None
 note_of body (Ok (status.UnprocessableContent, line)) = None
 note_of body (Ok (status.ServiceUnavailable, line)) = None
 note_of body (Err off) = None
-
--- rule: Download that fails
--- a package of which nothing was reported yet, by those of which was
-abbrev pub IsUnreported : List (List ℕ) → List ℕ → Type 0
-IsUnreported reported name = All (λ (each : List ℕ). each ≢ name) reported
-
--- what is served, and at which address
-unfoldable pub served_string : List ℕ → ℕ → List ℕ → List ℕ
-served_string name edition address =
-    codes "serving " ++ shown_string name ++ codes " as edition " ++ decimal edition ++ codes " at " ++ address
-
--- how many workers serve, and how many connections there may be at once
-unfoldable pub crew_string : ℕ → ℕ → List ℕ
-crew_string workers connections = decimal workers ++ codes " workers, " ++ decimal connections ++ codes " connections"
-
--- the same with the address of the operator, if there is one
-abbrev pub operated_string : Serving → Option (List ℕ) → List ℕ
-operated_string serving (Some operator) =
-    served_string serving.name.now serving.edition serving.address.now ++ codes ", operator at " ++ operator
-    ++ codes ", " ++ crew_string serving.workers serving.connections
-operated_string serving None =
-    served_string serving.name.now serving.edition serving.address.now ++ codes ", "
-    ++ crew_string serving.workers serving.connections
-
--- rule: Line of what is served
--- what is served, where, and by what
-abbrev pub serving_string : Serving → List ℕ
-serving_string serving = operated_string serving serving.operator.now

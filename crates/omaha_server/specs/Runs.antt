@@ -12,18 +12,19 @@ use Rattle.service_desks.specs.States.{Store}
 use Rattle.streams.specs.Streams.{Known}
 use Rattle.streams.specs.Writing.{Breaks}
 use Rattle.systems.specs.Edges.{Edges}
-use Rattle.omaha_server.specs.Logging.{log_at, those_of}
-use Rattle.omaha_server.specs.Passages.{HaveAcceptedAll, Passages, passages_of}
-use Rattle.omaha_server.specs.Serving.{AreTotals, IsOpen, IsReady}
+use Rattle.server_ports.specs.Logging.{log_at, those_of}
+use Rattle.server_ports.specs.Passages.{HaveAcceptedAll, Passages, passages_of}
+use Rattle.server_ports.specs.Starts.{IsOpen, IsReady}
+use Rattle.omaha_server.specs.Serving.{AreTotals}
 use Rattle.service_desks.specs.Totals.{totals_string}
-use Rattle.omaha_server.specs.declared.error.ServerError.{ServerError}
-use Rattle.omaha_server.specs.declared.error.ServerError.TheVariants as server
-use Rattle.omaha_server.specs.declared.place.Place.{Place}
+use Rattle.server_ports.specs.declared.error.ServerError.{ServerError}
+use Rattle.server_ports.specs.declared.error.ServerError.TheVariants as server
+use Rattle.server_ports.specs.declared.place.Place.{Place}
 use Rattle.omaha_server.specs.declared.clients.Visited.{Visited}
 use Rattle.omaha_server.specs.declared.operating.Operated.{Operated}
 use Rattle.omaha_server.specs.declared.running.Ended.{Ended}
 use Rattle.omaha_server.specs.declared.running.Run.{Run}
-use Rattle.omaha_server.specs.declared.setup.Served.{Served}
+use Rattle.server_ports.specs.declared.setup.Served.{Served}
 use Rattle.service_desks.specs.declared.services.service.Service.{Service}
 
 -- how a server ends whose jobs came to nothing

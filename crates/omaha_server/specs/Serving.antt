@@ -1,14 +1,12 @@
 -- What a server does from its start to its end; this project's profile.
-use Rattle.std.specs.Prelude.{◌≡◌, ◌⊎◌, ◌&&◌, ◌<◌, ◌≤◌, ℕ, Bool, true, false, nat_eq, not, List, [], codes, length, slice_index_or, Option, Some, None, Result, Ok, Err, IfErr, ⊤}
+use Rattle.std.specs.Prelude.{◌≡◌, ◌⊎◌, ◌&&◌, ◌<◌, ℕ, Bool, true, false, nat_eq, not, List, [], codes, length, slice_index_or, Option, Some, None, Result, Ok, Err, IfErr, ⊤}
 use Rattle.std.specs.Io.KnownBytes.{Appends}
 use Rattle.std.specs.Option.{is_some}
 use Rattle.catalogue.specs.Histories.{History}
 use Rattle.http_desks.specs.Calls.{Call, Asks, Looks, Shows}
-use Rattle.http_desks.specs.Uses.{IsUse}
 use Rattle.http_ports.specs.Rounds.{all_calls}
-use Rattle.http_ports.specs.Traffic.{IsTime}
 use Rattle.http_ports.specs.declared.terms.Terms.{Terms}
-use Rattle.http_sessions.specs.Ports.{HasTalked, Passage}
+use Rattle.http_sessions.specs.Ports.{Passage}
 use Rattle.kept_records.specs.declared.record.Record.{Record}
 use Rattle.mirror_ledger.specs.Asks.{Ask}
 use Rattle.publisher.specs.Sights.{Sight, fresh}
@@ -23,26 +21,21 @@ use Rattle.replies.specs.Asking.{GrantsFirst}
 use Rattle.systems.specs.Capacities.{IsCapacity}
 use Rattle.systems.specs.Edges.{Edges}
 use Rattle.omaha_server.specs.Checks.{ChecksCall, IsStopped, LeadsPast, sizes_at}
-use Rattle.omaha_server.specs.Logging.{is_dash}
-use Rattle.omaha_server.specs.Opening.{IsOperatorsPort, client_terms, clients_listener, operator_listener, ready_line}
+use Rattle.server_ports.specs.Logging.{is_dash}
+use Rattle.server_ports.specs.Errors.{IsUnlogged}
+use Rattle.server_ports.specs.Opening.{IsOperatorsPort, client_terms}
 use Rattle.omaha_server.specs.Outcomes.{status_word, stop_word}
-use Rattle.omaha_server.specs.Passages.{HaveAcceptedAll, Passages}
+use Rattle.server_ports.specs.Passages.{HaveAcceptedAll, Passages}
+use Rattle.server_ports.specs.Served.{IsServedPort}
+use Rattle.server_ports.specs.Starts.{IsOpen, IsReady, Stops}
 use Rattle.omaha_server.specs.Showing.{ShowsPage, ShowsStatus}
 use Rattle.omaha_server.specs.Overviews.{IsUnmoved, Overview, counts_after, has_published, overview_at, publishes_after}
 use Rattle.omaha_server.specs.Stopping.{IsEnding}
 use Rattle.service_desks.specs.Totals.{names_of, totals_string}
-use Rattle.omaha_server.specs.declared.error.ServerError.{ServerError}
-use Rattle.omaha_server.specs.declared.error.ServerError.TheVariants as server
-use Rattle.omaha_server.specs.declared.place.Place.{Place}
+use Rattle.server_ports.specs.declared.error.ServerError.{ServerError}
+use Rattle.server_ports.specs.declared.error.ServerError.TheVariants as server
+use Rattle.server_ports.specs.declared.place.Place.{Place}
 use Rattle.service_desks.specs.declared.services.service.Service.{Service}
-
--- a port of these terms was served to its end by a desk of this path and type, with the packages of the place's folder:
--- each connection that it accepted has ended
-pub record IsServedPort {D : Type 0} (edges : Edges) (place : Place) (path kind : List ℕ) (steps : D → Call → D → Type 0)
-    (before behind : D) (terms : Terms) (passage : Passage) : Type 0 where
-  pub by : passage.terms ≡ terms
-  pub few : passage.accepted ≤ terms.limit
-  pub talked : HasTalked (IsUse path IsTime (edges.sizes place.packages) (edges.reads place.packages)) kind steps before behind passage
 
 -- the path of update checks, and the type of a reply
 abbrev pub desk_path : List ℕ
@@ -161,81 +154,6 @@ pub record AreTotals (edges : Edges) (place : Place) (service : Service) (kept :
   pub operated : IsOperated edges place operator (overview_at started (state_of service kept)) operator_calls left passages.operator
   pub whole : (left.ending ≡ true) ⊎ HaveAcceptedAll passages
 
--- the line that says that the server listens was printed
-abbrev pub IsReady : Known → Known → Type 0
-IsReady old new = Appends old.bytes new.bytes ready_line
-
--- a listener is bound to the operator's address, if there is one
-abbrev pub IsListening : Edges → Option (List ℕ) → Type 0
-IsListening edges None = ⊤
-IsListening edges (Some address) = edges.listens address operator_listener
-
--- there is the folder of the place, and listeners are bound to its addresses
-pub record IsOpen (edges : Edges) (place : Place) : Type 0 where
-  pub folder : edges.folders place.packages
-  pub bound : edges.listens place.address clients_listener
-  pub operated : IsListening edges place.operator
-
--- what was printed of a server that ended before its totals: `ready` only if it has its folder and listens
-abbrev pub Stops : Edges → Place → Known → Known → ServerError → Type 0
-Stops edges place old new server.Net = new ≡ old
-Stops edges place old new server.OperatorNet = new ≡ old
-Stops edges place old new server.Log = new ≡ old
-Stops edges place old new server.Folder = new ≡ old
-Stops edges place old new (server.Package name what) = new ≡ old
-Stops edges place old new server.NoPlace = new ≡ old
-Stops edges place old new server.Thread = IsOpen edges place × IsReady old new
-Stops edges place old new server.RoomLeft = IsOpen edges place × IsReady old new
-Stops edges place old new server.Unpublished = IsOpen edges place × IsReady old new
-Stops edges place old new server.EndedEarly = IsOpen edges place × IsReady old new
-Stops edges place old new server.Write = IsOpen edges place × Breaks old new ready_line
-Stops edges place old new server.Memory = (new ≡ old) ⊎ (IsOpen edges place × IsReady old new)
-
--- an error that isn't that of a log
-abbrev pub IsUnlogged : ServerError → Type 0
-IsUnlogged server.Net = ⊤
-IsUnlogged server.OperatorNet = ⊤
-IsUnlogged server.Log = ⊥
-IsUnlogged server.Folder = ⊤
-IsUnlogged (server.Package name what) = ⊤
-IsUnlogged server.NoPlace = ⊤
-IsUnlogged server.Thread = ⊤
-IsUnlogged server.RoomLeft = ⊤
-IsUnlogged server.Unpublished = ⊤
-IsUnlogged server.EndedEarly = ⊤
-IsUnlogged server.Write = ⊤
-IsUnlogged server.Memory = ⊤
-
--- an error that comes after the log, the folder and the packages were looked for
-abbrev pub IsLater : ServerError → Type 0
-IsLater server.Net = ⊤
-IsLater server.OperatorNet = ⊤
-IsLater server.Log = ⊥
-IsLater server.Folder = ⊥
-IsLater (server.Package name what) = ⊥
-IsLater server.NoPlace = ⊤
-IsLater server.Thread = ⊤
-IsLater server.RoomLeft = ⊤
-IsLater server.Unpublished = ⊤
-IsLater server.EndedEarly = ⊤
-IsLater server.Write = ⊤
-IsLater server.Memory = ⊤
-
--- an error that comes before a line is sent to a log
-abbrev pub IsEarly : ServerError → Type 0
-IsEarly server.Net = ⊤
-IsEarly server.OperatorNet = ⊤
-IsEarly server.Log = ⊤
-IsEarly server.Folder = ⊤
-IsEarly (server.Package name what) = ⊤
-IsEarly server.NoPlace = ⊤
-IsEarly server.Thread = ⊥
-IsEarly server.RoomLeft = ⊥
-IsEarly server.Unpublished = ⊥
-IsEarly server.EndedEarly = ⊥
-IsEarly server.Write = ⊥
-IsEarly server.Memory = ⊥
-
 -- the log of that path was opened, or the server ended before
 abbrev pub IsOpened : {A : Type 0} → Edges → List ℕ → Result A ServerError → Type 0
 IsOpened edges path (Err server.Log) = ⊤
@@ -246,15 +164,6 @@ abbrev pub IsLogged : {A : Type 0} → Edges → Option (List ℕ) → Result A 
 IsLogged edges (Some path) result =
     (is_dash path ≡ true → IfErr result IsUnlogged) × (is_dash path ≡ false → IsOpened edges path result)
 IsLogged edges None result = IfErr result IsUnlogged
-
--- no reply is logged to the standard error
-abbrev pub LogsElsewhere : Option (List ℕ) → Type 0
-LogsElsewhere (Some path) = is_dash path ≡ false
-LogsElsewhere None = ⊤
-
--- nothing is written to the standard error: there is no log there, and the server says nothing of itself
-abbrev pub IsSilent : Place → Type 0
-IsSilent place = LogsElsewhere place.log × (place.named ≡ None)
 
 -- the ports were given back, and the lines of the totals were written; or a first part of them
 abbrev pub PrintsTotals : List Mirror → List ℕ → Passages → Known → Known → Result Passages ServerError → Type 0

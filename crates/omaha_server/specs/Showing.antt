@@ -1,5 +1,5 @@
 -- The pages of an operator's address, and its status; this project's profile.
-use Rattle.std.specs.Prelude.{◌≡◌, ◌+◌, ◌<◌, ◌≤◌, ⊤, ℕ, true, List, bytes_eq, codes, length, map, slice_index, Option, Result, Ok, Err}
+use Rattle.std.specs.Prelude.{◌≡◌, ◌+◌, ◌<◌, ◌≤◌, ⊤, ℕ, true, List, bytes_eq, codes, length, slice_index, Option, Result, Ok, Err}
 use Rattle.operator_pages.specs.AppSights.{AreSights}
 use Rattle.catalogue.specs.Histories.{History}
 use Rattle.editions.specs.Editions.{content_of}
@@ -13,10 +13,10 @@ use Rattle.operator_pages.specs.Health.{status_string}
 use Rattle.operator_pages.specs.Paths.{page_at}
 use Rattle.operator_pages.specs.declared.publishes.Publish.{Publish}
 use Rattle.operator_pages.specs.declared.shown.Shown.{Shown}
-use Rattle.catalogue.specs.declared.content.App.{App}
 use Rattle.catalogue.specs.declared.mirror.Mirror.{Mirror}
 use Rattle.service_desks.specs.States.{earlier_in}
 use Rattle.tallies.specs.Totals.{IsOfSize}
+use Rattle.server_ports.specs.Counting.{cohort_counts}
 use Rattle.omaha_server.specs.Overviews.{Overview}
 use Rattle.omaha_server.specs.declared.circumstances.Circumstances.{Circumstances}
 
@@ -25,10 +25,6 @@ use Rattle.omaha_server.specs.declared.circumstances.Circumstances.{Circumstance
 pub record AreGranted (mirrors : List Mirror) (granted : List ℕ) : Type 0 where
   pub many : length granted ≡ length mirrors
   pub within : (index : ℕ) → index < length granted → slice_index granted index ≤ budget_at mirrors index
-
--- how many cohorts each app has
-abbrev pub cohort_counts : List App → List ℕ
-cohort_counts apps = map (λ (app : App). length app.cohorts) apps
 
 -- what is shown is the published edition and the mirrors with their present budgets, with what they granted, by a program of
 -- that version; what the operator's calls came to, and whether the server is to end; and of what the workers counted a number

@@ -15,7 +15,6 @@ ghost use Rattle.service_desks.specs.States.{GoesOn, State, earlier_in, store};
 
 use crate::calls::{end_server, note_answer, note_stop};
 use crate::circumstances::Circumstances;
-use crate::setup::Setup;
 use crate::showing::{
     count_call, has_more, note_publish, publish_of, settled_count, show_page, show_status,
 };
@@ -27,6 +26,7 @@ use operator_pages::{Counts, Publish, Publishes};
 use package_files::{Lacking, PackageSizes, look_for_added};
 use profile_toml::read_script;
 use publisher::{Prepared, Press};
+use server_ports::{Setup, SystemFolder};
 use service_desks::Operator;
 use std::alloc::Global;
 use std::marker::PhantomData;
@@ -34,36 +34,6 @@ use std::sync::Wait;
 use std::thread::Threads;
 use systems::System;
 use values::ReadError;
-
-/// A folder of packages of a system, by their sizes.
-#[derive(Drop)]
-pub(crate) struct SystemFolder<'a, S, P> {
-    system: &'a S,
-    path: &'a str,
-    ports: PhantomData<P>,
-}
-
-impl<'a, S: System<P>, P: Port> SystemFolder<'a, S, P> {
-    /// Names the folder at a path of a system.
-    pub(crate) fn new(system: &'a S, path: &'a str) -> SystemFolder<'a, S, P>
-        ensures system { result.system.now ≡ system.now }
-        ensures path { result.path.now ≡ path.now }
-    {
-        SystemFolder {
-            system,
-            path,
-            ports: PhantomData,
-        }
-    }
-}
-
-impl<S: System<P>, P: Port> PackageSizes for SystemFolder<'_, S, P> {
-    ghost sizes = { λ folder. (S.edges folder.system.now).sizes folder.path.now };
-
-    fn size_of(&self, name: &[u8]) -> Option<u64> {
-        self.system.package_size(self.path, name)
-    }
-}
 
 // The reply to a script that adds a package which isn't there.
 fn reject(alloc: Global, lacking: &Lacking<'_>) -> Result<Answer, Off>

@@ -5,24 +5,18 @@ ghost use Rattle.std.specs.Option.{is_some};
 ghost use Rattle.catalogue.specs.Histories.{History};
 ghost use Rattle.publisher.specs.Sights.{fresh};
 ghost use Rattle.omaha_server.specs.Jobs.{IsClients};
-ghost use Rattle.omaha_server.specs.Logging.{those_of};
-ghost use Rattle.omaha_server.specs.Opening.{AreClientTerms, client_terms, clients_listener, portion_at};
+ghost use Rattle.server_ports.specs.Logging.{those_of};
 ghost use Rattle.systems.specs.NewPorts.{IsNew};
 
-use crate::ending::CLIENTS;
-use crate::new_port::NewPort;
-use crate::new_sender::NewSender;
-use crate::place::Place;
-use crate::setup::{Served, Setup, serve_new};
-use http_ports::{Port, Terms};
+use http_ports::Port;
 use mirror_ledger::{Till, TillJob};
 use publisher::View;
+use server_ports::{NewPort, NewSender, Served, Setup, serve_new};
 use service_desks::Worker;
 use std::alloc::{AllocError, Global};
 use std::sync::Wait;
 use std::time::Clock;
 use systems::System;
-use worker_threads::portion_of;
 
 /// What a worker came to.
 pub(crate) struct Visited<P> {
@@ -80,8 +74,8 @@ impl<S, R, P: Port + Drop> Drop for Clients<'_, '_, S, R, P> {
 // rule: Sessions of a server
 impl<S: System<P>, R: Clock + Wait + AllocGlobal, P: Port + Send + Drop> TillJob
     for Clients<'_, '_, S, R, P> {
-    ghost use Rattle.omaha_server.specs.Passages.{passage_of};
-    ghost use Rattle.omaha_server.specs.Logging.{HasSent};
+    ghost use Rattle.server_ports.specs.Passages.{passage_of};
+    ghost use Rattle.server_ports.specs.Logging.{HasSent};
     ghost use Rattle.omaha_server.specs.Serving.{IsWorkersPort};
 
     type End = Visited<P>;
@@ -108,49 +102,6 @@ impl<S: System<P>, R: Clock + Wait + AllocGlobal, P: Port + Send + Drop> TillJob
         let (left, till) = desk.into_parts();
         (till, Visited { served, view: left })
     }
-}
-
-// rule: Portion of a worker
-// How many sessions a worker serves.
-fn portion_at(place: &Place, worker: usize) -> Option<u64>
-    requires { worker < place.now.workers }
-    ensures { result ≡ portion_at place.now.sessions place.now.workers worker }
-{
-    match place.sessions {
-        Some(sessions) => Some(portion_of(worker as u64, place.workers as u64, sessions)),
-        None => None,
-    }
-}
-
-// What a worker's port serves by, with so many connections at once.
-fn terms_of(place: &Place, capacity: usize, worker: usize) -> Terms
-    requires { worker < place.now.workers }
-    ensures { result ≡ client_terms place.now capacity worker }
-{
-    Terms {
-        listener: CLIENTS,
-        capacity,
-        limit: portion_at(place, worker).unwrap_or(u64::MAX),
-        message: place.seconds,
-        idle: place.idle,
-    }
-}
-
-/// What the workers' ports serve by, with so many connections at once each.
-pub(crate) fn all_terms(
-    alloc: Global,
-    place: &Place,
-    capacity: usize,
-) -> Result<Vec<Terms>, AllocError>
-    ensures many { IfOk result (λ terms. length terms.items ≡ place.now.workers) }
-    ensures terms { IfOk result (λ terms. AreClientTerms place.now capacity terms.items) }
-    ensures listener { IfOk result (λ terms. All (λ t. t.listener ≡ clients_listener) terms.items) }
-{
-    let mut terms = Vec::new(alloc);
-    for worker in 0..place.workers {
-        terms.push(terms_of(place, capacity, worker))?;
-    }
-    Ok(terms)
 }
 
 // The connections of a worker.

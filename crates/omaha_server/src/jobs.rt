@@ -6,25 +6,26 @@ ghost use Rattle.http_ports.specs.Speech.{one_if};
 ghost use Rattle.access_logs.specs.Pages.{IsUncut};
 ghost use Rattle.publisher.specs.Sights.{fresh};
 ghost use Rattle.omaha_server.specs.Jobs.{IsManned};
-ghost use Rattle.omaha_server.specs.Logging.{AreLogged, AreOpened, Both, FitOutlets, IsFilled, senders_of, unless};
-ghost use Rattle.omaha_server.specs.Passages.{passages_of};
+ghost use Rattle.server_ports.specs.Logging.{AreLogged, AreOpened, Both, FitOutlets, IsFilled, senders_of, unless};
+ghost use Rattle.server_ports.specs.Passages.{passages_of};
 ghost use Rattle.omaha_server.specs.Runs.{HasServed};
-ghost use Rattle.omaha_server.specs.Serving.{AreTotals, IsEarly, IsLater, Stops, begun};
-ghost use Rattle.omaha_server.specs.declared.error.ServerError.TheVariants.{Memory, RoomLeft, Thread, Unpublished, EndedEarly};
+ghost use Rattle.server_ports.specs.Errors.{IsEarly, IsLater};
+ghost use Rattle.server_ports.specs.Starts.{Stops};
+ghost use Rattle.omaha_server.specs.Serving.{AreTotals, begun};
+ghost use Rattle.server_ports.specs.declared.error.ServerError.TheVariants.{Memory, RoomLeft, Thread, Unpublished, EndedEarly};
 
 use crate::clients::Clients;
 use crate::crew::{Crew, Publishing, crew_of};
-use crate::error::ServerError;
-use crate::logging::{Outlets, Writings, by_page, finish_writing, start_writing};
-use crate::opening::open_place;
 use crate::operating::Operating;
 use crate::running::{Run, ends_of, published_run};
-use crate::setup::Setup;
 use access_logs::Page;
 use http_ports::Port;
 use kept_records::Records;
 use mirror_ledger::run_with_tills;
 use publisher::View;
+use server_ports::{
+    Outlets, ServerError, Setup, Writings, by_page, finish_writing, open_place, start_writing,
+};
 use service_desks::Mirrors;
 use std::sync::Wait;
 use std::thread;

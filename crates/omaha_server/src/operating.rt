@@ -5,24 +5,19 @@ ghost use Rattle.catalogue.specs.Histories.{History};
 ghost use Rattle.profile_toml.specs.Laws.{AreMirrors};
 ghost use Rattle.operator_pages.specs.declared.counts.Counts.{Counts as Numbers};
 ghost use Rattle.operator_pages.specs.declared.publishes.Publish.{Publish};
-ghost use Rattle.omaha_server.specs.Logging.{HasSent};
-ghost use Rattle.omaha_server.specs.Opening.{operator_terms};
-ghost use Rattle.omaha_server.specs.Passages.{passage_of};
+ghost use Rattle.server_ports.specs.Logging.{HasSent};
+ghost use Rattle.server_ports.specs.Passages.{passage_of};
 ghost use Rattle.omaha_server.specs.Serving.{AreOperated};
 ghost use Rattle.omaha_server.specs.Overviews.{overview, overview_at};
 ghost use Rattle.service_desks.specs.States.{store};
 
 use crate::checking::Checked;
-use crate::ending::OPERATOR;
-use crate::new_port::NewPort;
-use crate::new_sender::NewSender;
-use crate::place::Place;
-use crate::setup::{Served, Setup, seconds_now, serve_new};
-use http_ports::{Port, Terms};
+use http_ports::Port;
 use kept_records::Records;
 use mirror_ledger::{BudgetJob, Budgets};
 use operator_pages::{Counts, Publishes};
 use publisher::{Prepared, Press, Receipt};
+use server_ports::{NewPort, NewSender, Served, Setup, seconds_now, serve_new};
 use std::alloc::AllocError;
 use std::marker::PhantomData;
 use std::sync::Wait;
@@ -30,22 +25,6 @@ use std::thread::Threads;
 use std::time::Clock;
 use systems::System;
 use tallies::Tally;
-
-// How many connections of the operator may be open at once.
-const CONNECTIONS: usize = 32;
-
-/// What the operator's port serves by.
-pub(crate) fn operator_terms(place: &Place) -> Terms
-    ensures { result ≡ operator_terms place.now }
-{
-    Terms {
-        listener: OPERATOR,
-        capacity: CONNECTIONS,
-        limit: place.edits.unwrap_or(u64::MAX),
-        message: place.seconds,
-        idle: place.idle,
-    }
-}
 
 /// The operator's port.
 #[derive(Drop)]
@@ -220,8 +199,8 @@ impl<
     ghost use Rattle.http_desks.specs.Calls.{Call};
     ghost use Rattle.service_desks.specs.States.{Publication};
     ghost use Rattle.omaha_server.specs.OperatorPorts.{has_operator, terms_left};
-    ghost use Rattle.omaha_server.specs.Logging.{HasSent};
-    ghost use Rattle.omaha_server.specs.Passages.{passage_of};
+    ghost use Rattle.server_ports.specs.Logging.{HasSent};
+    ghost use Rattle.server_ports.specs.Passages.{passage_of};
     ghost use Rattle.omaha_server.specs.Serving.{IsOperated, begun, with_mirrors};
 
     type End = Operated<P>;

@@ -1,21 +1,19 @@
 // What the jobs of a server came to.
 
 ghost use Rattle.std.specs.Prelude.{◌≡◌, ◌⊎◌, ◌∷◌, ◌++◌, [], All, Err, IfErr, IfOk, IfSome, IsTrue, Ok, map, option_map, option_to_list};
-ghost use Rattle.omaha_server.specs.Logging.{log_at, those_of};
+ghost use Rattle.server_ports.specs.Logging.{log_at, those_of};
 ghost use Rattle.publisher.specs.Sights.{Allows};
-ghost use Rattle.omaha_server.specs.Passages.{HasAcceptedAll, HaveAcceptedAll, passage_of, passages_of};
+ghost use Rattle.server_ports.specs.Passages.{HasAcceptedAll, HaveAcceptedAll, passage_of, passages_of};
 ghost use Rattle.omaha_server.specs.Runs.{HaveRun, IsPublished, run_failure};
-ghost use Rattle.omaha_server.specs.declared.error.ServerError.TheVariants.{Memory, RoomLeft, Thread, Unpublished, EndedEarly};
+ghost use Rattle.server_ports.specs.declared.error.ServerError.TheVariants.{Memory, RoomLeft, Thread, Unpublished, EndedEarly};
 
 use crate::clients::Visited;
-use crate::error::ServerError;
 use crate::operating::Operated;
-use crate::ports::{ServedPort, ServedPorts};
-use crate::setup::Served;
 use access_logs::EndedSender;
 use http_ports::Port;
 use mirror_ledger::{BudgetJob, Ran, RunError, TillJob};
 use publisher::{Receipt, may_enter};
+use server_ports::{Served, ServedPort, ServedPorts, ServerError};
 use std::alloc::{AllocError, Global};
 use streams::Trace;
 

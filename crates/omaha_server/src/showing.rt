@@ -6,14 +6,13 @@ ghost use Rattle.editions.specs.Editions.{content_of};
 ghost use Rattle.http_desks.specs.Calls.{answer_in};
 ghost use Rattle.http_desks.specs.Pages.{page_in};
 ghost use Rattle.omaha_server.specs.Outcomes.{counted_by, followed_in, is_word, outcome_in, outcome_of, reach_in};
-ghost use Rattle.omaha_server.specs.Showing.{AreGranted, IsKnown, ShowsPage, ShowsStatus, IsOverview, cohort_counts};
+ghost use Rattle.server_ports.specs.Counting.{cohort_counts};
+ghost use Rattle.omaha_server.specs.Showing.{AreGranted, IsKnown, ShowsPage, ShowsStatus, IsOverview};
 ghost use Rattle.omaha_server.specs.Overviews.{Overview, counted_at, has_more, last_edits, publish_of, published_by, settled_count, with_adopted};
 ghost use Rattle.service_desks.specs.States.{State, earlier_in};
 ghost use Rattle.tallies.specs.Totals.{IsOfSize};
 
 use crate::circumstances::Circumstances;
-use crate::setup::Setup;
-use crate::traffic::{Served, Traffic};
 use catalogue::Mirror;
 use editions::Edition;
 use http_desks::{Answer, DeskStatus, Off, Page};
@@ -22,6 +21,7 @@ use operator_pages::{
     AppSight, Counts, Outcome, Publish, Publishes, Reach, Shown, page_at, sights_of, status_string,
 };
 use publisher::{Prepared, Press};
+use server_ports::{ServedSoFar, Setup, Traffic};
 use std::alloc::{AllocError, Global};
 use std::sync::Wait;
 
@@ -29,7 +29,7 @@ use std::sync::Wait;
 struct Funds {
     mirrors: Vec<Mirror>,
     granted: Vec<u64>,
-    served: Served,
+    served: ServedSoFar,
     sights: Vec<AppSight>,
 }
 

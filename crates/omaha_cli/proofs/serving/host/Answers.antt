@@ -8,12 +8,13 @@ use Rattle.omaha_commands.specs.declared.failure.Failure.{Failure}
 use Rattle.streams.specs.Streams.{Known}
 use Rattle.systems.specs.Edges.{Edges}
 use Rattle.omaha_server.specs.Checks.{IsStockedFor}
-use Rattle.omaha_server.specs.Logging.{AreLogged, IsLoggedHere}
-use Rattle.omaha_server.specs.Passages.{passages_in, passages_of}
-use Rattle.omaha_server.specs.Serving.{IsEarly, IsLogged}
-use Rattle.omaha_server.specs.declared.error.ServerError.{ServerError}
-use Rattle.omaha_server.specs.declared.place.Place.{Place}
-use Rattle.omaha_server.specs.declared.ports.ServedPorts.{ServedPorts}
+use Rattle.server_ports.specs.Logging.{AreLogged, IsLoggedHere}
+use Rattle.server_ports.specs.Passages.{passages_in, passages_of}
+use Rattle.server_ports.specs.Errors.{IsEarly}
+use Rattle.omaha_server.specs.Serving.{IsLogged}
+use Rattle.server_ports.specs.declared.error.ServerError.{ServerError}
+use Rattle.server_ports.specs.declared.place.Place.{Place}
+use Rattle.server_ports.specs.declared.ports.ServedPorts.{ServedPorts}
 use Rattle.omaha_cli.proofs.serving.host.Goals as goal
 
 pub returns-clause-hosted : goal.returns-clause-hosted

@@ -4,7 +4,7 @@ use Rattle.std.proofs.lemmas.List.{map-append}
 use Rattle.std.proofs.lemmas.List.Elements.{All-nil, All-pop, All-push}
 use Rattle.publisher.specs.Sights.{fresh}
 use Rattle.omaha_server.specs.Jobs.{IsClients}
-use Rattle.omaha_server.specs.Logging.{those_of}
+use Rattle.server_ports.specs.Logging.{those_of}
 use Rattle.omaha_server.proofs.ClientLemmas.{left_so, lines_all, lines_so, next_so, none_left, still_sized}
 use Rattle.omaha_server.proofs.clients.all_clients.Goals as goal
 

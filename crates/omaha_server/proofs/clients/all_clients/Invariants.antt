@@ -4,7 +4,7 @@ use Rattle.std.specs.Vec.Iter.{into_iter_items, into_iter_len}
 use Rattle.catalogue.specs.Histories.{History}
 use Rattle.publisher.specs.Sights.{fresh}
 use Rattle.omaha_server.specs.Jobs.{IsClients}
-use Rattle.omaha_server.specs.Logging.{those_of}
+use Rattle.server_ports.specs.Logging.{those_of}
 use Rattle.systems.specs.NewPorts.{IsNew}
 use Rattle.omaha_server.proofs.clients.all_clients.Given as goal
 

@@ -1,8 +1,8 @@
 use Rattle.std.proofs.Common.{◌≡◌, arith, inr, is_some, map, option_map, vec_len}
 use Rattle.std.proofs.lemmas.Result.{err_from_is_err_and}
 use Rattle.http_ports.specs.Speech.{one_if}
-use Rattle.omaha_server.specs.Logging.{senders_of, unless}
-use Rattle.omaha_server.proofs.PageLemmas.{ended-there, file-ended, here-given, page-written, unless-same}
+use Rattle.server_ports.specs.Logging.{senders_of, unless}
+use Rattle.server_ports.proofs.PageLemmas.{ended-there, file-ended, here-given, page-written, unless-same}
 use Rattle.omaha_server.proofs.RunLemmas.{AreLogged-run, AreTotals-run}
 use Rattle.omaha_server.proofs.jobs.run_within.Goals as goal
 

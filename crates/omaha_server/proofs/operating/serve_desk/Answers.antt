@@ -1,5 +1,5 @@
 use Rattle.service_desks.specs.States.{store}
-use Rattle.omaha_server.specs.Passages.{passage_of}
+use Rattle.server_ports.specs.Passages.{passage_of}
 use Rattle.omaha_server.specs.Overviews.{overview}
 use Rattle.omaha_server.proofs.AlongLemmas.{AreOperated-along}
 use Rattle.omaha_server.proofs.operating.serve_desk.Goals as goal

@@ -1,5 +1,5 @@
 use Rattle.std.proofs.Common.{arith, below_more, get_or, map, subst, sym}
-use Rattle.omaha_server.specs.Passages.{HasAcceptedAll, passage_of}
+use Rattle.server_ports.specs.Passages.{HasAcceptedAll, passage_of}
 use Rattle.omaha_server.proofs.RunLemmas.{get_or-mapped}
 use Rattle.omaha_server.proofs.running.have_clients_accepted.Goals as goal
 

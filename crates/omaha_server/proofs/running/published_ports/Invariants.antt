@@ -2,7 +2,7 @@
 use Rattle.std.proofs.Common.{◌≡◌, ◌++◌, All, length, map}
 use Rattle.std.specs.Vec.Iter.{into_iter_items, into_iter_len}
 use Rattle.publisher.specs.Sights.{Allows}
-use Rattle.omaha_server.specs.Logging.{those_of}
+use Rattle.server_ports.specs.Logging.{those_of}
 use Rattle.omaha_server.proofs.running.published_ports.Given as goal
 
 abbrev pub invariant-loop-visited : goal.invariant-loop-visited

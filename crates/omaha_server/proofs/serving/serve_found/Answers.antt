@@ -1,6 +1,6 @@
 use Rattle.std.proofs.Common.{◌∙◌, ℕ, Err, List, ap, subst}
 use Rattle.catalogue.specs.Histories.{History}
-use Rattle.omaha_server.specs.Passages.{passages_of}
+use Rattle.server_ports.specs.Passages.{passages_of}
 use Rattle.omaha_server.specs.Runs.{HasServed, PrintsLines}
 use Rattle.omaha_server.specs.Serving.{begun}
 use Rattle.service_desks.specs.Totals.{names_of}

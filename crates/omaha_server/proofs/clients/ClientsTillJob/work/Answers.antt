@@ -1,6 +1,6 @@
 use Rattle.std.proofs.Common.{◌∙◌, ap, subst, sym}
 use Rattle.publisher.specs.Sights.{Sight}
-use Rattle.omaha_server.specs.Passages.{passage_of}
+use Rattle.server_ports.specs.Passages.{passage_of}
 use Rattle.omaha_server.specs.Serving.{IsWorkersPort}
 use Rattle.omaha_server.proofs.AlongLemmas.{IsWorkersPort-along}
 use Rattle.omaha_server.proofs.clients.ClientsTillJob.work.Goals as goal

@@ -3,9 +3,9 @@ use Rattle.http_ports.specs.declared.terms.Terms.{Terms}
 use Rattle.access_logs.specs.Queues.{Sending}
 use Rattle.operator_pages.specs.Counts.{no_counts}
 use Rattle.service_desks.specs.States.{publication}
-use Rattle.omaha_server.specs.Logging.{HasSent}
+use Rattle.server_ports.specs.Logging.{HasSent}
 use Rattle.omaha_server.specs.OperatorPorts.{terms_left}
-use Rattle.omaha_server.specs.Passages.{passage_of}
+use Rattle.server_ports.specs.Passages.{passage_of}
 use Rattle.omaha_server.specs.Serving.{IsOperated, begun, with_mirrors}
 use Rattle.omaha_server.specs.Overviews.{overview, overview_at}
 use Rattle.omaha_server.specs.declared.operating.OperatorPort.{OperatorPort}

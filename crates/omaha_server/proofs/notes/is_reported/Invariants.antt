@@ -1,7 +1,0 @@
--- None of the names so far is this one.
-use Rattle.std.proofs.Common.{take}
-use Rattle.omaha_server.specs.Notes.{IsUnreported}
-use Rattle.omaha_server.proofs.notes.is_reported.Given as goal
-
-abbrev pub invariant-loop-each : goal.invariant-loop-each
-invariant-loop-each l = IsUnreported (take l.each-index l.reported) l.name

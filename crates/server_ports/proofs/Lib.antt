@@ -1,0 +1,3 @@
+mod OutletLemmas
+pub mod PageLemmas
+pub mod SenderLemmas

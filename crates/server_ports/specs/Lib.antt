@@ -1,0 +1,9 @@
+pub mod Counting
+pub mod Errors
+pub mod Logging
+pub mod Notes
+pub mod Opening
+pub mod Passages
+pub mod Places
+pub mod Served
+pub mod Starts
