@@ -56,7 +56,7 @@ COMMENTS = {
 }
 HELP = re.compile(r"crates/omaha_arguments/src/\w+\.rt$")
 STRING = re.compile(r'^const \w+: &str =\s*"((?:[^"\\]|\\.)*)"', re.DOTALL | re.MULTILINE)
-EXPLANATIONS = re.compile(r"crates/omaha_commands/src/explanations/\w+\.rt$")
+EXPLANATIONS = re.compile(r"crates/failures/src/explanations/\w+\.rt$")
 # (an explanation begins with a line of its code and name)
 EXPLANATION = re.compile(r'^ +"[^"\n]*\n((?:[^"\\]|\\.)*)"', re.DOTALL | re.MULTILINE)
 

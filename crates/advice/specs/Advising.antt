@@ -6,9 +6,9 @@ use Rattle.catalogue.specs.Batches.{outcome}
 use Rattle.catalogue.specs.declared.edit.Edit.{Edit}
 use Rattle.catalogue.specs.declared.fault.Refused.{Refused}
 use Rattle.omaha_arguments.specs.declared.command.Command.{Command}
-use Rattle.omaha_commands.specs.Failures.{failure_string}
-use Rattle.omaha_commands.specs.declared.failure.Failure.{Failure}
-use Rattle.omaha_commands.specs.declared.failure.Failure.TheVariants as failure
+use Rattle.failures.specs.Failures.{failure_string}
+use Rattle.failures.specs.declared.failure.Failure.{Failure}
+use Rattle.failures.specs.declared.failure.Failure.TheVariants as failure
 use Rattle.advice.specs.Documents.{edits_in, max_file}
 use Rattle.advice.specs.Looks.{IsAddressAdvice, IsLook, Sights}
 use Rattle.advice.specs.Replies.{IsPathSaid, IsReplySaid, explained}

@@ -7,7 +7,7 @@ use Rattle.std.specs.Str.{is_utf8}
 use Rattle.streams.specs.Strings.{shown_string}
 use Rattle.streams.specs.Streams.{Known}
 use Rattle.catalogue.specs.declared.fault.Fault.{Fault}
-use Rattle.omaha_commands.specs.Explanations.{explanation_of}
+use Rattle.failures.specs.Explanations.{explanation_of}
 use Rattle.omaha_arguments.specs.Options.{number_of}
 use Rattle.omaha_arguments.specs.declared.command.Command.{Command}
 use Rattle.omaha_arguments.specs.declared.command.Command.TheVariants as command

@@ -9,7 +9,7 @@ ghost use Rattle.advice.specs.Sources.{aim_of, is_given_twice, profile_path, scr
 ghost use Rattle.advice.specs.declared.tables.Kind.TheVariants as kind;
 ghost use Rattle.catalogue.specs.Batches.{outcome};
 ghost use Rattle.catalogue.specs.declared.edit.Edit.{Edit};
-ghost use Rattle.omaha_commands.specs.Failures.{failure_string};
+ghost use Rattle.failures.specs.Failures.{failure_string};
 ghost use Rattle.streams.specs.Reading.{IsWhole};
 
 use crate::documents::{MAX_FILE, Trouble};
@@ -18,8 +18,8 @@ use crate::replied::{explained, path_said, reply_advice};
 use crate::sources::{aim_of, file_aim, is_given_twice, profile_path, script_path};
 use crate::tables::Kind;
 use catalogue::{Batch, Catalogue, Refused};
+use failures::Failure;
 use omaha_arguments::Command;
-use omaha_commands::Failure;
 use profile_toml::read_profile;
 use std::alloc::{AllocError, Global};
 use streams::Disk;

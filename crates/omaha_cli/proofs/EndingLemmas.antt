@@ -8,7 +8,7 @@ use Rattle.omaha_arguments.specs.declared.error.ArgumentError.{ArgumentError}
 use Rattle.omaha_arguments.specs.declared.error.ArgumentError.TheVariants as argument
 use Rattle.omaha_commands.specs.Operating.{Listeners}
 use Rattle.omaha_commands.specs.Streams.{Streams}
-use Rattle.omaha_commands.specs.declared.failure.Failure.{Failure}
+use Rattle.failures.specs.declared.failure.Failure.{Failure}
 use Rattle.omaha_cli.specs.Doing.{Does, Logs}
 use Rattle.omaha_cli.specs.Worlds.{World}
 use Rattle.omaha_cli.specs.Running.{Ends, EndsBy, EndsTask, IsLoggedBy, IsMistaken, IsTaskOf, code_of, ending_of, status_of}

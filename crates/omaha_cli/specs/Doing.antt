@@ -20,7 +20,7 @@ use Rattle.omaha_commands.specs.Walking.{WalksOn}
 use Rattle.omaha_cli.specs.Worlds.{World}
 use Rattle.omaha_arguments.specs.declared.command.Command.{Command}
 use Rattle.omaha_arguments.specs.declared.command.Command.TheVariants as command
-use Rattle.omaha_commands.specs.declared.failure.Failure.{Failure}
+use Rattle.failures.specs.declared.failure.Failure.{Failure}
 use Rattle.omaha_commands.specs.declared.operating.Manner.{Manner}
 use Rattle.omaha_cli.specs.declared.running.Task.{Task}
 

@@ -10,8 +10,8 @@ use Rattle.service_desks.specs.declared.services.service.Service.{Service}
 use Rattle.omaha_arguments.specs.declared.command.Once.{Once}
 use Rattle.omaha_commands.specs.Profiles.{Files, IsServed}
 use Rattle.omaha_commands.specs.Streams.{Streams}
-use Rattle.omaha_commands.specs.declared.failure.Failure.{Failure}
-use Rattle.omaha_commands.specs.declared.failure.Failure.TheVariants as failure
+use Rattle.failures.specs.declared.failure.Failure.{Failure}
+use Rattle.failures.specs.declared.failure.Failure.TheVariants as failure
 use Rattle.omaha_cli.specs.Answering.{IsAnswerTo}
 
 -- rule: Maximum of the input

@@ -13,12 +13,12 @@ use Rattle.advice.specs.Advising.{IsAdvice}
 use Rattle.advice.specs.Looks.{Sights}
 use Rattle.omaha_commands.specs.Profiles.{Files}
 use Rattle.omaha_cli.specs.Doing.{Does, Logs}
-use Rattle.omaha_commands.specs.Failures.{failure_string, is_declined}
+use Rattle.failures.specs.Failures.{failure_string, is_declined}
 use Rattle.omaha_commands.specs.Operating.{Listeners}
 use Rattle.omaha_commands.specs.Streams.{Streams}
 use Rattle.omaha_cli.specs.Worlds.{World}
-use Rattle.omaha_commands.specs.declared.failure.Failure.{Failure}
-use Rattle.omaha_commands.specs.declared.failure.Failure.TheVariants as failure
+use Rattle.failures.specs.declared.failure.Failure.{Failure}
+use Rattle.failures.specs.declared.failure.Failure.TheVariants as failure
 use Rattle.omaha_commands.specs.declared.operating.Manner.{Manner}
 use Rattle.omaha_cli.specs.declared.running.Ending.{Ending}
 use Rattle.omaha_cli.specs.declared.running.Ending.TheVariants as ending

@@ -16,8 +16,8 @@ use Rattle.server_ports.specs.declared.place.Place.{Place}
 use Rattle.service_desks.specs.States.{store}
 use Rattle.omaha_commands.specs.Profiles.{Files}
 use Rattle.omaha_commands.specs.Streams.{Streams}
-use Rattle.omaha_commands.specs.declared.failure.Failure.{Failure}
-use Rattle.omaha_commands.specs.declared.failure.Failure.TheVariants as failure
+use Rattle.failures.specs.declared.failure.Failure.{Failure}
+use Rattle.failures.specs.declared.failure.Failure.TheVariants as failure
 use Rattle.omaha_histories.specs.Histories.{Beginning, IsBegun, Stored}
 
 -- the failure of a server whose log can't be opened; naming its file takes memory

@@ -1,16 +1,16 @@
 // The command `serve`.
 
 ghost use Rattle.std.specs.Prelude.{◌≡◌, ◌⊎◌, Err, IfOk, IfSome, option_map};
-ghost use Rattle.omaha_commands.specs.declared.failure.Failure.TheVariants.{Thread};
+ghost use Rattle.failures.specs.declared.failure.Failure.TheVariants.{Thread};
 ghost use Rattle.omaha_cli.specs.Serving.{EndsAs, IsAlone, IsHostedBy, IsPlaceOf, IsQuiet, IsUnbound, IsUnopened, ServesOn, followed_at, served_name};
 ghost use Rattle.server_ports.specs.Logging.{IsSilent};
 ghost use Rattle.streams.specs.Streams.{Known};
 
 use etcd_records::is_etcd_path;
+use failures::Failure;
 use http_ports::Port;
 use kept_records::{Records, Stores};
 use omaha_arguments::{Serve, VERSION};
-use omaha_commands::Failure;
 use omaha_histories::{follow, open_beginning};
 use omaha_server::{Place, ServerError, serve};
 use service_desks::KeptService;

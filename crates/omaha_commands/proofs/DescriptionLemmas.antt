@@ -6,7 +6,7 @@ use Rattle.package_files.specs.declared.describing.DescribeError.{DescribeError}
 use Rattle.package_files.specs.Paths.{IsDescribed}
 use Rattle.package_files.specs.Storages.{Storage}
 use Rattle.omaha_commands.specs.Describing.{AreDescribed, IsFailureAt, IsFound}
-use Rattle.omaha_commands.specs.declared.failure.Failure.{Failure}
+use Rattle.failures.specs.declared.failure.Failure.{Failure}
 
 -- one more file is described
 AreDescribed-more :

@@ -1,6 +1,5 @@
 mod CountLemmas
 mod DescriptionLemmas
-mod ExplainingLemmas
 mod KeepingLemmas
 mod NumberLemmas
 mod ReviewLemmas

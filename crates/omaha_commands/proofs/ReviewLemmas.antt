@@ -5,7 +5,7 @@ use Rattle.catalogue.specs.Histories.{History}
 use Rattle.editions.specs.Editions.{Continues}
 use Rattle.omaha_arguments.specs.declared.command.Review.{Review}
 use Rattle.omaha_commands.specs.Reviewing.{FindsInBatch, FindsNext}
-use Rattle.omaha_commands.specs.declared.failure.Failure.{Failure}
+use Rattle.failures.specs.declared.failure.Failure.{Failure}
 use Rattle.omaha_commands.specs.declared.reviewing.Findings.{Findings}
 
 pub FindsInBatch-next :

@@ -6,8 +6,8 @@ use Rattle.editions.specs.Editions.{Continues}
 use Rattle.editions.specs.declared.fault.NextError.{NextError}
 use Rattle.omaha_commands.specs.Reviewing.{failure_of_next}
 use Rattle.omaha_commands.specs.ScriptFiles.{Script}
-use Rattle.omaha_commands.specs.declared.failure.Failure.{Failure}
-use Rattle.omaha_commands.specs.declared.failure.Failure.TheVariants as failure
+use Rattle.failures.specs.declared.failure.Failure.{Failure}
+use Rattle.failures.specs.declared.failure.Failure.TheVariants as failure
 
 -- the edition that edits make of another one, or why there is none
 abbrev pub IsNext : History → List Edit → Result History Failure → Type 0

@@ -7,7 +7,7 @@ use Rattle.update_client.specs.declared.posting.Reply.{Reply}
 use Rattle.update_client.specs.declared.walk_at.Limits.{Limits}
 use Rattle.omaha_commands.specs.Operating.{Listeners, max_dump, max_line}
 use Rattle.omaha_commands.specs.Reviewing.{IsUnanswered, probe_script}
-use Rattle.omaha_commands.specs.declared.failure.Failure.{Failure}
+use Rattle.failures.specs.declared.failure.Failure.{Failure}
 
 -- what an exchange may take whose reply is a line, and one whose reply is a profile
 abbrev pub line_limits : ℕ → Limits

@@ -14,8 +14,8 @@ use Rattle.omaha_commands.specs.Summaries.{summary_of}
 use Rattle.omaha_arguments.specs.declared.command.Comparison.{Comparison}
 use Rattle.omaha_commands.specs.Profiles.{Files, IsServed}
 use Rattle.omaha_commands.specs.Streams.{Streams}
-use Rattle.omaha_commands.specs.declared.failure.Failure.{Failure}
-use Rattle.omaha_commands.specs.declared.failure.Failure.TheVariants as failure
+use Rattle.failures.specs.declared.failure.Failure.{Failure}
+use Rattle.failures.specs.declared.failure.Failure.TheVariants as failure
 
 -- what is printed of a service's packages: its summary if there is no finding, else the findings
 abbrev pub report_of : Service → List Finding → List ℕ

@@ -5,8 +5,8 @@ use Rattle.package_files.specs.Storages.{Storage}
 use Rattle.package_files.specs.declared.describing.DescribeError.{DescribeError}
 use Rattle.omaha_commands.specs.Reports.{Prints}
 use Rattle.omaha_commands.specs.Streams.{Streams}
-use Rattle.omaha_commands.specs.declared.failure.Failure.{Failure}
-use Rattle.omaha_commands.specs.declared.failure.Failure.TheVariants as failure
+use Rattle.failures.specs.declared.failure.Failure.{Failure}
+use Rattle.failures.specs.declared.failure.Failure.TheVariants as failure
 
 -- rule: Descriptions of paths
 -- the files are described, one after the other

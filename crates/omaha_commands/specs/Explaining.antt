@@ -1,10 +1,10 @@
 -- What the command `explain` prints; this project's profile.
 use Rattle.std.specs.Prelude.{◌≡◌, ◌⊎◌, ℕ, List, Option, Some, None, Result, Ok, Err}
-use Rattle.omaha_commands.specs.Explanations.{explanation_of}
+use Rattle.failures.specs.Explanations.{explanation_of}
 use Rattle.omaha_commands.specs.Reports.{Prints}
 use Rattle.omaha_commands.specs.Streams.{Streams}
-use Rattle.omaha_commands.specs.declared.failure.Failure.{Failure}
-use Rattle.omaha_commands.specs.declared.failure.Failure.TheVariants as failure
+use Rattle.failures.specs.declared.failure.Failure.{Failure}
+use Rattle.failures.specs.declared.failure.Failure.TheVariants as failure
 
 -- what was found of a code is printed; without an explanation nothing is, and the failure names the code, which
 -- takes memory

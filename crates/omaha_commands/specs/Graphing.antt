@@ -17,8 +17,8 @@ use Rattle.omaha_commands.specs.Profiles.{Files, IsServed}
 use Rattle.omaha_commands.specs.Reports.{Prints}
 use Rattle.omaha_commands.specs.Streams.{Streams}
 use Rattle.omaha_arguments.specs.declared.command.Graph.{Graph}
-use Rattle.omaha_commands.specs.declared.failure.Failure.{Failure}
-use Rattle.omaha_commands.specs.declared.failure.Failure.TheVariants as failure
+use Rattle.failures.specs.declared.failure.Failure.{Failure}
+use Rattle.failures.specs.declared.failure.Failure.TheVariants as failure
 
 -- the index of the cohort that is named, if one is; nothing if the app has no such cohort
 abbrev pub cohort_in : List App → ℕ → Option (List ℕ) → Option (Option ℕ)

@@ -17,8 +17,8 @@ use Rattle.omaha_commands.specs.Reports.{Prints}
 use Rattle.omaha_commands.specs.ScriptFiles.{IsScriptOf, Script, max_script}
 use Rattle.omaha_commands.specs.Stocking.{Stocks}
 use Rattle.omaha_commands.specs.Streams.{Streams}
-use Rattle.omaha_commands.specs.declared.failure.Failure.{Failure}
-use Rattle.omaha_commands.specs.declared.failure.Failure.TheVariants as failure
+use Rattle.failures.specs.declared.failure.Failure.{Failure}
+use Rattle.failures.specs.declared.failure.Failure.TheVariants as failure
 
 -- a server's dump makes this service, or why there is none
 abbrev pub IsPublished : Listeners → List ℕ → Result Service Failure → Type 0

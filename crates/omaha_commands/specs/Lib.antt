@@ -4,17 +4,13 @@ pub mod Certificates
 pub mod Comparing
 pub mod Describing
 pub mod Explaining
-pub mod Explanations
-pub mod Failures
 pub mod Graphing
-pub mod HistoryFaults
 pub mod Judging
 pub mod Keeping
 pub mod Operating
 pub mod Pieces
 pub mod Posting
 pub mod Profiles
-pub mod Rejections
 pub mod Reports
 pub mod Reviewing
 pub mod ScriptFiles

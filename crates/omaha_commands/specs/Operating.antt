@@ -9,8 +9,8 @@ use Rattle.omaha_arguments.specs.declared.command.Raise.{Raise}
 use Rattle.omaha_commands.specs.Profiles.{Files, IsUnread, max_profile}
 use Rattle.omaha_commands.specs.ShownReplies.{printed_reply}
 use Rattle.omaha_commands.specs.Streams.{Streams}
-use Rattle.omaha_commands.specs.declared.failure.Failure.{Failure}
-use Rattle.omaha_commands.specs.declared.failure.Failure.TheVariants as failure
+use Rattle.failures.specs.declared.failure.Failure.{Failure}
+use Rattle.failures.specs.declared.failure.Failure.TheVariants as failure
 
 -- which replies the operator's listener at an address gave to a body
 abbrev pub Listeners : Type 1

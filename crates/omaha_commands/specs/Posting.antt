@@ -7,7 +7,7 @@ use Rattle.omaha_commands.specs.Operating.{IsScript, Listeners, PostsBytes}
 use Rattle.omaha_commands.specs.Profiles.{Files}
 use Rattle.omaha_commands.specs.Stocking.{StocksBytes}
 use Rattle.omaha_commands.specs.Streams.{Streams}
-use Rattle.omaha_commands.specs.declared.failure.Failure.{Failure}
+use Rattle.failures.specs.declared.failure.Failure.{Failure}
 
 -- a script whose packages agree is sent; of another one nothing is
 abbrev pub PostsIf : Listeners → Bool → List ℕ → List ℕ → Result (Unit {0}) Failure → Known → Known → Result (Unit {0}) Failure → Type 0

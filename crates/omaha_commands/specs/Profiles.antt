@@ -8,8 +8,8 @@ use Rattle.service_desks.specs.declared.services.service.Service.{Service}
 use Rattle.profile_toml.specs.Reading.{profile_of_bytes}
 use Rattle.profile_toml.specs.declared.fault.ProfileFault.{ProfileFault}
 use Rattle.catalogue.specs.declared.fault.Refused.{Refused}
-use Rattle.omaha_commands.specs.declared.failure.Failure.{Failure}
-use Rattle.omaha_commands.specs.declared.failure.Failure.TheVariants as failure
+use Rattle.failures.specs.declared.failure.Failure.{Failure}
+use Rattle.failures.specs.declared.failure.Failure.TheVariants as failure
 
 -- rule: Maximum of a profile
 -- how many bytes a profile may have: 256 MiB

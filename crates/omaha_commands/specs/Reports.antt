@@ -16,14 +16,14 @@ use Rattle.certificates.specs.declared.fault.Fault.{Fault}
 use Rattle.values.specs.declared.read_error.ReadError.{ReadError}
 use Rattle.omaha_commands.specs.Applying.{Applies}
 use Rattle.omaha_commands.specs.Profiles.{Files, IsServed, IsUnreadable, max_profile}
-use Rattle.omaha_commands.specs.Rejections.{failure_of_certificate}
+use Rattle.failures.specs.Rejections.{failure_of_certificate}
 use Rattle.omaha_commands.specs.ScriptFiles.{IsScriptOf, Script as Written}
 use Rattle.omaha_commands.specs.Streams.{Streams}
 use Rattle.omaha_arguments.specs.declared.command.Question.{Question}
 use Rattle.omaha_arguments.specs.declared.command.Question.TheVariants.{Check, Warn, Script, Certify, Verify}
 use Rattle.omaha_arguments.specs.declared.command.Report.{Report}
-use Rattle.omaha_commands.specs.declared.failure.Failure.{Failure}
-use Rattle.omaha_commands.specs.declared.failure.Failure.TheVariants as failure
+use Rattle.failures.specs.declared.failure.Failure.{Failure}
+use Rattle.failures.specs.declared.failure.Failure.TheVariants as failure
 
 -- what is printed of a valid certificate
 abbrev pub certified_line : List ℕ

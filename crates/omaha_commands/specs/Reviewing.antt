@@ -26,8 +26,8 @@ use Rattle.omaha_commands.specs.Operating.{Listeners, PrintsBody}
 use Rattle.omaha_commands.specs.Profiles.{Files, IsMade, IsServed, service_of_bytes}
 use Rattle.omaha_commands.specs.ScriptFiles.{IsScriptRead, Script}
 use Rattle.omaha_commands.specs.Streams.{Streams}
-use Rattle.omaha_commands.specs.declared.failure.Failure.{Failure}
-use Rattle.omaha_commands.specs.declared.failure.Failure.TheVariants as failure
+use Rattle.failures.specs.declared.failure.Failure.{Failure}
+use Rattle.failures.specs.declared.failure.Failure.TheVariants as failure
 use Rattle.omaha_commands.specs.declared.reviewing.Findings.{Findings}
 use Rattle.omaha_commands.specs.declared.reviewing.Verdict.{Verdict}
 use Rattle.omaha_commands.specs.declared.reviewing.Verdict.TheVariants.{StuckReleases, Declined}

@@ -4,8 +4,8 @@ use Rattle.streams.specs.Reading.{IsLonger, IsWhole}
 use Rattle.catalogue.specs.declared.edit.Edit.{Edit}
 use Rattle.profile_toml.specs.Reading.{script_of_bytes}
 use Rattle.omaha_commands.specs.Profiles.{Files}
-use Rattle.omaha_commands.specs.declared.failure.Failure.{Failure}
-use Rattle.omaha_commands.specs.declared.failure.Failure.TheVariants as failure
+use Rattle.failures.specs.declared.failure.Failure.{Failure}
+use Rattle.failures.specs.declared.failure.Failure.TheVariants as failure
 
 -- how many bytes a script may have
 abbrev pub max_script : ℕ

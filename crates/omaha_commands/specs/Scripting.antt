@@ -10,8 +10,8 @@ use Rattle.omaha_commands.specs.Operating.{Listeners}
 use Rattle.omaha_commands.specs.Reports.{Prints}
 use Rattle.omaha_commands.specs.Reviewing.{IsUnanswered}
 use Rattle.omaha_commands.specs.Streams.{Streams}
-use Rattle.omaha_commands.specs.declared.failure.Failure.{Failure}
-use Rattle.omaha_commands.specs.declared.failure.Failure.TheVariants as failure
+use Rattle.failures.specs.declared.failure.Failure.{Failure}
+use Rattle.failures.specs.declared.failure.Failure.TheVariants as failure
 
 -- the edition that the script is for, by its number, or as a server names it
 abbrev pub IsBase : Listeners → Base → Result ℕ Failure → Type 0

@@ -11,8 +11,8 @@ use Rattle.package_files.specs.Storages.{Storage}
 use Rattle.package_files.specs.declared.finding.Finding.{Finding}
 use Rattle.profile_toml.specs.Reading.{script_of_bytes}
 use Rattle.omaha_commands.specs.ScriptFiles.{IsUnreadScript, Script}
-use Rattle.omaha_commands.specs.declared.failure.Failure.{Failure}
-use Rattle.omaha_commands.specs.declared.failure.Failure.TheVariants as failure
+use Rattle.failures.specs.declared.failure.Failure.{Failure}
+use Rattle.failures.specs.declared.failure.Failure.TheVariants as failure
 
 -- nothing is printed of packages that agree; else the lines of what was found are, and the command fails with how many; or
 -- the writer failed within them, or memory ran out before

@@ -4,8 +4,8 @@ use Rattle.streams.specs.Streams.{Known}
 use Rattle.update_client.specs.Endings.{Endings}
 use Rattle.omaha_arguments.specs.declared.command.Stop.{Stop}
 use Rattle.omaha_commands.specs.Operating.{Calls, Listeners, max_line}
-use Rattle.omaha_commands.specs.declared.failure.Failure.{Failure}
-use Rattle.omaha_commands.specs.declared.failure.Failure.TheVariants as failure
+use Rattle.failures.specs.declared.failure.Failure.{Failure}
+use Rattle.failures.specs.declared.failure.Failure.TheVariants as failure
 
 -- the failure for a server that hasn't ended in time; or memory ran out
 abbrev pub IsStopping : List ℕ → Failure → Type 0

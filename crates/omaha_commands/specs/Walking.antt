@@ -9,11 +9,11 @@ use Rattle.update_client.specs.declared.fault.Fault.{Fault}
 use Rattle.update_client.specs.declared.walking.Walk.{Walk as Walked}
 use Rattle.update_client.specs.Lines.{done_line}
 use Rattle.update_client.specs.Walking.{IsWalkOver}
-use Rattle.omaha_commands.specs.Rejections.{failure_of_walk}
+use Rattle.failures.specs.Rejections.{failure_of_walk}
 use Rattle.omaha_commands.specs.Reports.{Prints}
 use Rattle.omaha_commands.specs.Streams.{Streams}
-use Rattle.omaha_commands.specs.declared.failure.Failure.{Failure}
-use Rattle.omaha_commands.specs.declared.failure.Failure.TheVariants as failure
+use Rattle.failures.specs.declared.failure.Failure.{Failure}
+use Rattle.failures.specs.declared.failure.Failure.TheVariants as failure
 
 -- the client of a walk; it asks for no cohort
 abbrev pub client_of : Walk → Installed

@@ -2,10 +2,10 @@
 
 ghost use Rattle.omaha_commands.specs.Applying.{Applies, IsNext};
 
-use crate::failure::Failure;
 use crate::reviewing::failure_of;
 use catalogue::Batch;
 use editions::Edition;
+use failures::Failure;
 
 // The edition that edits make of another one.
 fn next_edition(edition: &Edition, batch: Batch) -> Result<Edition, Failure>

@@ -6,8 +6,8 @@ ghost use Rattle.std.specs.Str.{is_utf8};
 ghost use Rattle.omaha_commands.specs.Asking.{HasEdition, IsEditionLine, digits_said, dump_limits, edition_line, edition_named, line_limits};
 ghost use Rattle.omaha_commands.specs.Reviewing.{IsUnanswered};
 
-use crate::failure::Failure;
 use crate::fetching::{PROBE, ask};
+use failures::Failure;
 use omaha_arguments::number_of;
 use std::alloc::{AllocError, Global};
 use std::str;

@@ -3,14 +3,14 @@
 ghost use Rattle.std.specs.Prelude.{◌≡◌, IfOk, IfErr, string_bytes};
 ghost use Rattle.editions.specs.Editions.{content_of};
 ghost use Rattle.omaha_commands.specs.Comparing.{Compares, IsCompared, IsReportedOn, report_of};
-ghost use Rattle.omaha_commands.specs.declared.failure.Failure.TheVariants.{Memory};
+ghost use Rattle.failures.specs.declared.failure.Failure.TheVariants.{Memory};
 ghost use Rattle.package_files.specs.Findings.{AreFindings};
 ghost use Rattle.catalogue.specs.Lookups.{packages_of};
 ghost use Rattle.streams.specs.Streams.{Known};
 
-use crate::failure::Failure;
 use crate::profile::open_profile;
 use crate::reports::summary;
+use failures::Failure;
 use omaha_arguments::Comparison;
 use package_files::{Finding, Folders, findings_string};
 use service_desks::Service;

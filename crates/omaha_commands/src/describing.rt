@@ -4,8 +4,8 @@ ghost use Rattle.std.specs.Prelude.{Err, IfErr, IfOk, Ok, string_bytes};
 ghost use Rattle.omaha_commands.specs.Describing.{IsFailureAt, IsFound, PrintsDescriptions};
 ghost use Rattle.streams.specs.Streams.{Known};
 
-use crate::failure::Failure;
 use crate::printing::print;
+use failures::Failure;
 use package_files::{DescribeError, Folders, describe_path};
 use std::alloc::Global;
 use streams::WriteWhole;

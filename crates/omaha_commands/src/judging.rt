@@ -7,7 +7,6 @@ ghost use Rattle.streams.specs.Streams.{Known};
 
 use crate::applying::apply;
 use crate::asking::{dump_limits, edition_at, unanswered};
-use crate::failure::Failure;
 use crate::fetching::ask;
 use crate::operating::is_input;
 use crate::printing::print;
@@ -16,6 +15,7 @@ use crate::script_file::{MAX_SCRIPT, read_script_file, script_in};
 use crate::stocking::stock;
 use catalogue::Batch;
 use editions::Edition;
+use failures::Failure;
 use omaha_arguments::Publication;
 use package_files::Folders;
 use service_desks::Service;

@@ -5,16 +5,14 @@
 //! is `graph`: read `specs/Graphing.antt`. `compare_on` is `check` with a folder of packages, and `describe_files`
 //! describes files, by `package_files`: read `specs/Comparing.antt` and `specs/Describing.antt`. `print_script` is
 //! `script`: read `specs/Scripting.antt`. A script is applied to an edition as `specs/Applying.antt` says.
-//! `explain_code` prints what `explanations` says of a code.
+//! `explain_code` prints what `failures` says of a code.
 //!
 //! `walk_on` is walked by `update_client`: read `specs/Walking.antt`; `publish_on`, `raise_on`, `dump_on` and
 //! `status_on` post by it: read `specs/Operating.antt`, for a script that is only checked `specs/Judging.antt`, and for
 //! its packages `specs/Stocking.antt`. `stop_on` also waits for the end of a server: read `specs/Stopping.antt`.
-//! `print` writes what a command found. A `Failure` is why a command fails, and a `HistoryFault` what is wrong with a
-//! history.
+//! `print` writes what a command found.
 //!
-//! `reports` has what is reported of an edition, and the check of a table by several threads; `explanations` what codes
-//! and words mean.
+//! `reports` has what is reported of an edition, and the check of a table by several threads.
 //!
 //! It reads no arguments, and exits with no status.
 
@@ -25,11 +23,8 @@ mod asking;
 mod comparing;
 mod describing;
 mod explaining;
-mod explanations;
-mod failure;
 mod fetching;
 mod graphing;
-mod history_fault;
 mod judging;
 mod keeping;
 mod operating;
@@ -48,10 +43,7 @@ mod walking;
 pub use crate::comparing::compare_on;
 pub use crate::describing::describe_files;
 pub use crate::explaining::explain_code;
-pub use crate::explanations::{explain, list};
-pub use crate::failure::Failure;
 pub use crate::graphing::graph_on;
-pub use crate::history_fault::HistoryFault;
 pub use crate::operating::{Manner, dump_on, publish_on, raise_on, status_on};
 pub use crate::printing::print;
 pub use crate::profile::{open_service, read_named, read_service, service_in};

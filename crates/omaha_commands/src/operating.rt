@@ -7,13 +7,13 @@ ghost use Rattle.omaha_commands.specs.Operating.{Calls, Dumps, IsRead, IsScript,
 ghost use Rattle.omaha_commands.specs.Posting.{Posts, PostsStocked};
 
 use crate::asking::{dump_limits, edition_line, line_limits};
-use crate::failure::Failure;
 use crate::fetching::ask;
 use crate::judging::check_on;
 use crate::profile::MAX_PROFILE;
 use crate::script_file::MAX_SCRIPT;
 use crate::shown_reply::{encoded_reply, is_plain};
 use crate::stocking::stock_bytes;
+use failures::Failure;
 use omaha_arguments::{Publication, Raise, ServerAsked};
 use package_files::Folders;
 use std::alloc::Global;

@@ -4,7 +4,7 @@ ghost use Rattle.std.specs.Prelude.{Ok};
 ghost use Rattle.omaha_commands.specs.Reports.{Prints};
 ghost use Rattle.streams.specs.Streams.{Known};
 
-use crate::failure::Failure;
+use failures::Failure;
 use streams::WriteWhole;
 
 /// Prints a string. If the writer fails, a first part of it is printed, and not all of it.

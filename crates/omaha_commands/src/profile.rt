@@ -4,7 +4,7 @@ ghost use Rattle.std.specs.Prelude.{IfErr, IfOk, Some};
 ghost use Rattle.omaha_commands.specs.Profiles.{IsMade, IsServed, IsUnread, max_profile, service_of_bytes};
 ghost use Rattle.streams.specs.Reading.{IsWhole};
 
-use crate::failure::Failure;
+use failures::Failure;
 use profile_toml::{laws, read_profile};
 use service_desks::{Service, builtin_service, make_service};
 use std::alloc::Global;

@@ -7,7 +7,6 @@ ghost use Rattle.reviews.specs.Copies.{AreKept, HaveSources};
 ghost use Rattle.reviews.specs.Reviews.{AreReviews};
 ghost use Rattle.streams.specs.Streams.{Known};
 
-use crate::failure::Failure;
 use crate::fetching::review_server;
 use crate::keeping::kept_apps;
 use crate::operating::print_body;
@@ -15,6 +14,7 @@ use crate::profile::open_profile;
 use crate::script_file::read_script_of;
 use catalogue::{Batch, Catalogue};
 use editions::{Edition, NextError};
+use failures::Failure;
 use omaha_arguments::{Review, Source};
 use review_reports::{
     Change, Clients, changes, cut_off_newcomers, newly_stuck_total, stuck_total,

@@ -4,8 +4,8 @@ ghost use Rattle.std.specs.Prelude.{◌≡◌, Err, IfErr, IfOk, Ok};
 ghost use Rattle.omaha_commands.specs.ScriptFiles.{IsScriptOf, IsScriptRead, IsUnreadScript};
 ghost use Rattle.profile_toml.specs.Reading.{script_of_bytes};
 
-use crate::failure::Failure;
 use catalogue::Batch;
+use failures::Failure;
 use profile_toml::read_script;
 use std::alloc::Global;
 use streams::{Disk, ReadFailure};

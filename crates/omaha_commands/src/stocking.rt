@@ -2,9 +2,9 @@
 
 ghost use Rattle.omaha_commands.specs.Stocking.{EndsStocking, Stocks, StocksBytes, StocksIn};
 
-use crate::failure::Failure;
 use crate::script_file::script_in;
 use catalogue::Edit;
+use failures::Failure;
 use package_files::{Finding, Folders, findings_string};
 use std::alloc::Global;
 use streams::WriteWhole;

@@ -3,8 +3,8 @@
 ghost use Rattle.std.specs.Prelude.{◌≡◌};
 ghost use Rattle.omaha_commands.specs.Stopping.{Awaits, EndsAfter, IsStopping, Stops};
 
-use crate::failure::Failure;
 use crate::operating::call_for_line;
+use failures::Failure;
 use omaha_arguments::Stop;
 use std::alloc::Global;
 use std::sync::Wait;

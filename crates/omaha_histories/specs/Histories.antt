@@ -22,10 +22,10 @@ use Rattle.streams.specs.Reading.{IsWhole}
 use Rattle.omaha_commands.specs.Profiles.{Files, IsServed, max_profile}
 use Rattle.omaha_commands.specs.Reports.{Prints}
 use Rattle.omaha_commands.specs.Streams.{Streams}
-use Rattle.omaha_commands.specs.declared.failure.Failure.{Failure}
-use Rattle.omaha_commands.specs.declared.failure.Failure.TheVariants as failure
-use Rattle.omaha_commands.specs.declared.history_fault.HistoryFault.{HistoryFault}
-use Rattle.omaha_commands.specs.declared.history_fault.HistoryFault.TheVariants as reason
+use Rattle.failures.specs.declared.failure.Failure.{Failure}
+use Rattle.failures.specs.declared.failure.Failure.TheVariants as failure
+use Rattle.failures.specs.declared.history_fault.HistoryFault.{HistoryFault}
+use Rattle.failures.specs.declared.history_fault.HistoryFault.TheVariants as reason
 
 -- the failure of the history at a path, for this reason; naming the path takes memory
 abbrev pub IsHistoryFailure : List ℕ → HistoryFault → Failure → Type 0

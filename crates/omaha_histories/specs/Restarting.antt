@@ -12,8 +12,8 @@ use Rattle.mirror_ledger.specs.Raising.{RaisesTo}
 use Rattle.profile_toml.specs.Reading.{profile_of_bytes, script_of_bytes}
 use Rattle.catalogue.specs.declared.mirror.Mirror.{Mirror}
 use Rattle.service_desks.specs.Raises.{Replays, raise_of}
-use Rattle.service_desks.specs.declared.services.record_fault.RecordFault.{RecordFault}
-use Rattle.service_desks.specs.declared.services.record_fault.RecordFault.TheVariants as fault
+use Rattle.failures.specs.declared.record_fault.RecordFault.{RecordFault}
+use Rattle.failures.specs.declared.record_fault.RecordFault.TheVariants as fault
 use Rattle.omaha_histories.specs.declared.restarts.fault.RestoreError.{RestoreError}
 use Rattle.omaha_histories.specs.declared.restarts.fault.RestoreError.TheVariants as restore
 

@@ -7,8 +7,8 @@ use Rattle.values.specs.declared.read_error.ReadError.{ReadError}
 use Rattle.values.specs.declared.read_error.ReadError.TheVariants as read
 use Rattle.kept_records.specs.declared.record.Record.{Record}
 use Rattle.omaha_histories.specs.Restarting.{BeginsNothing, FollowAll, FollowsNothing, Found}
-use Rattle.service_desks.specs.declared.services.record_fault.RecordFault.{RecordFault}
-use Rattle.service_desks.specs.declared.services.record_fault.RecordFault.TheVariants as fault
+use Rattle.failures.specs.declared.record_fault.RecordFault.{RecordFault}
+use Rattle.failures.specs.declared.record_fault.RecordFault.TheVariants as fault
 use Rattle.omaha_histories.specs.declared.restarts.fault.RestoreError.{RestoreError}
 use Rattle.omaha_histories.specs.declared.restarts.fault.RestoreError.TheVariants as restore
 

@@ -3,16 +3,17 @@
 ghost use Rattle.std.specs.Prelude.{◌≡◌, ◌≤◌, ◌^◌, IfErr, IfOk, MatchOption, Ok, Err};
 ghost use Rattle.omaha_arguments.specs.declared.command.HistoryAction.TheVariants.{Export};
 ghost use Rattle.omaha_histories.specs.Histories.{AreNotExported, AreNotShortened, AreOfEdition, IsFoundIn, IsFoundOf, IsNotFoundOf, IsShortened, LackEdition, LeadNowhere, PrintsHistory};
-ghost use Rattle.omaha_commands.specs.declared.failure.Failure.TheVariants.{Memory};
+ghost use Rattle.failures.specs.declared.failure.Failure.TheVariants.{Memory};
 ghost use Rattle.omaha_histories.specs.Exporting.{IsExport};
 ghost use Rattle.omaha_histories.specs.Listing.{listing};
 ghost use Rattle.streams.specs.Streams.{Known};
 
 use crate::histories::{history_failure, is_there, restore_failure};
 use crate::restarts::{count_editions, export, list, records_until};
+use failures::{Failure, HistoryFault};
 use kept_records::{OpenFault, Record, Records, Stores};
 use omaha_arguments::{HistoryAction, HistoryAsked};
-use omaha_commands::{Failure, HistoryFault, print};
+use omaha_commands::print;
 use std::alloc::Global;
 use std::thread::Threads;
 use streams::{Disk, WriteWhole};

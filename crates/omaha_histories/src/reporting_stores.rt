@@ -1,7 +1,7 @@
 // Histories that print on standard error why a script or a raise isn't kept, and why no record can be read.
 
+use failures::HistoryFault;
 use kept_records::{AppendFault, Cause, Kind, OpenFault, ReadFault, Record, Records, Stores};
-use omaha_commands::HistoryFault;
 use std::alloc::Global;
 use std::rt::HostRuntime;
 use streams::{Shown, offer};

@@ -1,7 +1,6 @@
 pub mod Attempts
 pub mod Builtin
 pub mod Entries
-pub mod FaultStrings
 pub mod Following
 pub mod Keeping
 pub mod Kept

@@ -33,7 +33,6 @@ pub use crate::operator::Operator;
 pub use crate::packages::find_package;
 pub use crate::raises::replay_raise;
 pub use crate::services::{
-    KeptService, Mirrors, RecordFault, Service, builtin_service, make_service, names_of,
-    totals_string,
+    KeptService, Mirrors, Service, builtin_service, make_service, names_of, totals_string,
 };
 pub use crate::worker::Worker;

@@ -1,6 +1,6 @@
 // Why records lead to nothing.
 
-use service_desks::RecordFault;
+use failures::RecordFault;
 use std::alloc::AllocError;
 
 /// Why records lead to nothing.

@@ -10,10 +10,11 @@ ghost use Rattle.omaha_histories.specs.Steps.{IsStopAfter, IsWhyNoBeginning, IsW
 use crate::restarts::fault::RestoreError;
 use catalogue::Mirror;
 use editions::{Edition, EditionBuilder, NextError};
+use failures::RecordFault;
 use kept_records::{Kind, Record};
 use par_tables::Gate;
 use profile_toml::{laws, read_profile, read_script};
-use service_desks::{RecordFault, replay_raise};
+use service_desks::replay_raise;
 use std::alloc::Global;
 use std::marker::Model;
 use std::thread::Threads;

@@ -1,6 +1,6 @@
 use Rattle.std.proofs.Common.{◌∙◌, ℕ, List, Option, Ok, ap, subst}
 use Rattle.streams.specs.Streams.{Known}
-use Rattle.omaha_commands.specs.Explanations.{explanation_of}
+use Rattle.failures.specs.Explanations.{explanation_of}
 use Rattle.omaha_commands.specs.Explaining.{SaysOf}
 use Rattle.omaha_commands.specs.Reports.{Prints}
 use Rattle.omaha_commands.specs.Streams.{Streams}

@@ -1,8 +1,8 @@
 use Rattle.std.proofs.Common.{◌≡◌, ◌⊎◌, ℕ, List, Result, Err, inl, inr, refl, string_bytes, subst}
 use Rattle.streams.specs.Writing.{IsWritten}
 use Rattle.omaha_commands.specs.Reviewing.{IsUnanswered}
-use Rattle.omaha_commands.specs.declared.failure.Failure.{Failure}
-use Rattle.omaha_commands.specs.declared.failure.Failure.TheVariants as failure
+use Rattle.failures.specs.declared.failure.Failure.{Failure}
+use Rattle.failures.specs.declared.failure.Failure.TheVariants as failure
 use Rattle.omaha_commands.proofs.operating.dump_verbosely.Goals as goal
 
 -- the failure is one of a call

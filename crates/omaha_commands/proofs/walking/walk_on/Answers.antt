@@ -2,7 +2,7 @@ use Rattle.std.proofs.Common.{Ok, Err, inl, refl, subst, ap, ◌∙◌}
 use Rattle.std.proofs.lemmas.Result.{err_from_is_err_and}
 use Rattle.update_client.specs.Installed.{Installed}
 use Rattle.update_client.specs.Walking.{IsWalkOver}
-use Rattle.omaha_commands.specs.declared.failure.Failure.TheVariants as failure
+use Rattle.failures.specs.declared.failure.Failure.TheVariants as failure
 use Rattle.omaha_commands.proofs.walking.walk_on.Goals as goal
 
 pub returns-in_err-line : goal.returns-in_err-line

@@ -2,14 +2,14 @@
 use Rattle.std.specs.Prelude.{ℕ, List, [], ◌∷◌, map, Option, Some, None, bytes_eq, if◌then◌else◌}
 use Rattle.std.specs.Borrow.{Bor}
 use Rattle.std.specs.Option.{option_or}
-use Rattle.omaha_commands.specs.declared.explanations.budgets.TheConstants.{BUDGETS}
-use Rattle.omaha_commands.specs.declared.explanations.certificates.TheConstants.{CERTIFICATES}
-use Rattle.omaha_commands.specs.declared.explanations.edits.TheConstants.{EDITS}
-use Rattle.omaha_commands.specs.declared.explanations.lines.TheConstants.{LINES}
-use Rattle.omaha_commands.specs.declared.explanations.profiles.TheConstants.{PROFILES}
-use Rattle.omaha_commands.specs.declared.explanations.requests.TheConstants.{REQUESTS}
-use Rattle.omaha_commands.specs.declared.explanations.walks.TheConstants.{WALKS}
-use Rattle.omaha_commands.specs.declared.explanations.words.TheConstants.{WORDS}
+use Rattle.failures.specs.declared.explanations.budgets.TheConstants.{BUDGETS}
+use Rattle.failures.specs.declared.explanations.certificates.TheConstants.{CERTIFICATES}
+use Rattle.failures.specs.declared.explanations.edits.TheConstants.{EDITS}
+use Rattle.failures.specs.declared.explanations.lines.TheConstants.{LINES}
+use Rattle.failures.specs.declared.explanations.profiles.TheConstants.{PROFILES}
+use Rattle.failures.specs.declared.explanations.requests.TheConstants.{REQUESTS}
+use Rattle.failures.specs.declared.explanations.walks.TheConstants.{WALKS}
+use Rattle.failures.specs.declared.explanations.words.TheConstants.{WORDS}
 
 -- what the first entry of a code says
 abbrev pub string_in : List (List ℕ × List ℕ) → List ℕ → Option (List ℕ)

@@ -2,8 +2,8 @@
 use Rattle.std.specs.Prelude.{ℕ, List, ◌++◌, codes}
 use Rattle.catalogue.specs.FaultStrings.{refused_string}
 use Rattle.profile_toml.specs.FaultStrings.{fault_string as profile_fault_string}
-use Rattle.service_desks.specs.declared.services.record_fault.RecordFault.{RecordFault}
-use Rattle.service_desks.specs.declared.services.record_fault.RecordFault.TheVariants as fault
+use Rattle.failures.specs.declared.record_fault.RecordFault.{RecordFault}
+use Rattle.failures.specs.declared.record_fault.RecordFault.TheVariants as fault
 
 -- what the record is, and its fault
 abbrev pub fault_string : RecordFault → List ℕ

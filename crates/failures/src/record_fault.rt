@@ -1,7 +1,7 @@
 // Why a record of a history has no place in it.
 
 ghost use Rattle.std.specs.Prelude.{Some};
-ghost use Rattle.service_desks.specs.FaultStrings.{fault_string};
+ghost use Rattle.failures.specs.RecordFaults.{fault_string};
 
 use catalogue::Refused;
 use profile_toml::ProfileFault;

@@ -1,7 +1,7 @@
 //! The entry of a code, and the list of all.
 
 ghost use Rattle.std.specs.Prelude.{◌≡◌, option_map};
-ghost use Rattle.omaha_commands.specs.Explanations.{entries_of, explanation_of, string_in};
+ghost use Rattle.failures.specs.Explanations.{entries_of, explanation_of, string_in};
 
 use crate::explanations::budgets::BUDGETS;
 use crate::explanations::certificates::CERTIFICATES;

@@ -7,8 +7,8 @@ use Rattle.streams.specs.declared.reading.ReadFailure.TheVariants as input
 use Rattle.update_client.specs.declared.fault.Fault.{Fault}
 use Rattle.values.specs.declared.read_error.ReadError.{ReadError}
 use Rattle.values.specs.declared.read_error.ReadError.TheVariants as errors
-use Rattle.omaha_commands.specs.declared.failure.Failure.{Failure}
-use Rattle.omaha_commands.specs.declared.failure.Failure.TheVariants as failure
+use Rattle.failures.specs.declared.failure.Failure.{Failure}
+use Rattle.failures.specs.declared.failure.Failure.TheVariants as failure
 
 abbrev pub failure_of_input : ReadFailure → Failure
 failure_of_input input.Broken = failure.Read

@@ -1,6 +1,6 @@
 use Rattle.std.proofs.Common.{◌∙◌, ap}
-use Rattle.omaha_commands.proofs.ExplainingLemmas.{first-shown, shown}
-use Rattle.omaha_commands.proofs.explanations.explaining.explain.Goals as goal
+use Rattle.failures.proofs.ExplainingLemmas.{first-shown, shown}
+use Rattle.failures.proofs.explanations.explaining.explain.Goals as goal
 
 pub returns : goal.returns
 returns c =

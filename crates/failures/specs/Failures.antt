@@ -8,9 +8,9 @@ use Rattle.certificates.specs.FaultStrings.{fault_string as certificate_fault_te
 use Rattle.profile_toml.specs.FaultStrings.{fault_string as profile_fault_text}
 use Rattle.streams.specs.Strings.{shown_string}
 use Rattle.update_client.specs.Faults.{fault_string as walk_fault_text}
-use Rattle.omaha_commands.specs.HistoryFaults.{history_fault_string}
-use Rattle.omaha_commands.specs.declared.failure.Failure.{Failure}
-use Rattle.omaha_commands.specs.declared.failure.Failure.TheVariants as failure
+use Rattle.failures.specs.HistoryFaults.{history_fault_string}
+use Rattle.failures.specs.declared.failure.Failure.{Failure}
+use Rattle.failures.specs.declared.failure.Failure.TheVariants as failure
 
 -- rule: Printed failure
 -- `file` and the path as it is shown, perhaps with the reason; the code and name of a fault, with its place; or a

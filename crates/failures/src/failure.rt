@@ -1,5 +1,5 @@
 ghost use Rattle.std.specs.Prelude.{◌≡◌, Some};
-ghost use Rattle.omaha_commands.specs.Failures.{failure_string, is_declined};
+ghost use Rattle.failures.specs.Failures.{failure_string, is_declined};
 
 use crate::history_fault::HistoryFault;
 use catalogue::Refused;
@@ -208,7 +208,7 @@ impl Failure {
 
 impl From<AllocError> for Failure {
     ghost use Rattle.std.specs.Prelude.{◌≡◌};
-    ghost use Rattle.omaha_commands.specs.declared.failure.Failure.TheVariants.{Memory};
+    ghost use Rattle.failures.specs.declared.failure.Failure.TheVariants.{Memory};
 
     ghost from_gives = { λ _ failure. failure ≡ Memory };
 
@@ -219,7 +219,7 @@ impl From<AllocError> for Failure {
 
 impl From<ReadFailure> for Failure {
     ghost use Rattle.std.specs.Prelude.{◌≡◌};
-    ghost use Rattle.omaha_commands.specs.Rejections.{failure_of_input};
+    ghost use Rattle.failures.specs.Rejections.{failure_of_input};
 
     ghost from_gives = { λ error failure. failure ≡ failure_of_input error };
 
@@ -234,7 +234,7 @@ impl From<ReadFailure> for Failure {
 
 impl From<ReadError<ProfileFault>> for Failure {
     ghost use Rattle.std.specs.Prelude.{◌≡◌};
-    ghost use Rattle.omaha_commands.specs.Rejections.{failure_of_profile};
+    ghost use Rattle.failures.specs.Rejections.{failure_of_profile};
 
     ghost from_gives = { λ error failure. failure ≡ failure_of_profile error };
 
@@ -248,7 +248,7 @@ impl From<ReadError<ProfileFault>> for Failure {
 
 impl From<ReadError<Refused>> for Failure {
     ghost use Rattle.std.specs.Prelude.{◌≡◌};
-    ghost use Rattle.omaha_commands.specs.Rejections.{failure_of_edit};
+    ghost use Rattle.failures.specs.Rejections.{failure_of_edit};
 
     ghost from_gives = { λ error failure. failure ≡ failure_of_edit error };
 
@@ -262,7 +262,7 @@ impl From<ReadError<Refused>> for Failure {
 
 impl From<ReadError<CertificateFault>> for Failure {
     ghost use Rattle.std.specs.Prelude.{◌≡◌};
-    ghost use Rattle.omaha_commands.specs.Rejections.{failure_of_certificate};
+    ghost use Rattle.failures.specs.Rejections.{failure_of_certificate};
 
     ghost from_gives = { λ error failure. failure ≡ failure_of_certificate error };
 
@@ -276,7 +276,7 @@ impl From<ReadError<CertificateFault>> for Failure {
 
 impl From<ReadError<Fault>> for Failure {
     ghost use Rattle.std.specs.Prelude.{◌≡◌};
-    ghost use Rattle.omaha_commands.specs.Rejections.{failure_of_walk};
+    ghost use Rattle.failures.specs.Rejections.{failure_of_walk};
 
     ghost from_gives = { λ error failure. failure ≡ failure_of_walk error };
 

@@ -4,9 +4,9 @@ use Rattle.kept_records.specs.declared.fault.AppendFault.TheVariants as append
 use Rattle.kept_records.specs.declared.fault.Cause.{Cause}
 use Rattle.kept_records.specs.declared.fault.Cause.TheVariants as cause
 use Rattle.kept_records.specs.declared.fault.OpenFault.TheVariants as open_fault
-use Rattle.service_desks.specs.FaultStrings.{fault_string as record_fault_text}
-use Rattle.omaha_commands.specs.declared.history_fault.HistoryFault.{HistoryFault}
-use Rattle.omaha_commands.specs.declared.history_fault.HistoryFault.TheVariants as fault
+use Rattle.failures.specs.RecordFaults.{fault_string as record_fault_text}
+use Rattle.failures.specs.declared.history_fault.HistoryFault.{HistoryFault}
+use Rattle.failures.specs.declared.history_fault.HistoryFault.TheVariants as fault
 
 -- the words for what made a call fail
 abbrev pub cause_string : Cause → List ℕ

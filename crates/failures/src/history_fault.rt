@@ -1,10 +1,10 @@
 // What is wrong with a history.
 
 ghost use Rattle.std.specs.Prelude.{◌≡◌, Some};
-ghost use Rattle.omaha_commands.specs.HistoryFaults.{cause_string, history_fault_string};
+ghost use Rattle.failures.specs.HistoryFaults.{cause_string, history_fault_string};
 
+use crate::record_fault::RecordFault;
 use kept_records::{AppendFault, Cause, OpenFault};
-use service_desks::RecordFault;
 use std::error::Error;
 use std::fmt;
 
