@@ -6,7 +6,7 @@ use Rattle.omaha_commands.specs.Describing.{PrintsDescriptions}
 use Rattle.omaha_commands.specs.Explaining.{Explains}
 use Rattle.omaha_commands.specs.Graphing.{PrintsGraph}
 use Rattle.omaha_histories.specs.Histories.{PrintsHistory}
-use Rattle.omaha_cli.specs.Once.{Responds}
+use Rattle.omaha_commands.specs.Once.{Responds}
 use Rattle.omaha_commands.specs.Asking.{Notes}
 use Rattle.omaha_commands.specs.Operating.{Dumps, Listeners, PrintsStatus, Raises}
 use Rattle.omaha_commands.specs.Judging.{Publishes}

@@ -5,16 +5,16 @@ ghost use Rattle.omaha_arguments.specs.WalkArguments.{IsAskable};
 ghost use Rattle.omaha_cli.specs.Doing.{Does, Logs};
 ghost use Rattle.omaha_cli.specs.Running.{Ends, EndsBy, EndsTask, IsAdvised, IsLoggedBy, IsManner, IsMistaken, IsReported, IsPrinted, PrintsAdvice, Runs, Shows, code_of, ending_of, status_of};
 
-use crate::once::respond;
 use crate::serving::serve_profile;
 use crate::watched::Watched;
 use advice::{Looks, advice_on};
+use failures::Failure;
 use http_ports::Port;
 use kept_records::Stores;
 use omaha_arguments::{ArgumentError, Command, Invocation, read_arguments};
 use omaha_commands::{
-    Failure, Manner, compare_on, describe_files, dump_on, explain_code, graph_on, print_script,
-    publish_on, raise_on, report_on, review_on, status_on, stop_on, walk_on,
+    Manner, compare_on, describe_files, dump_on, explain_code, graph_on, print_script, publish_on,
+    raise_on, report_on, respond, review_on, status_on, stop_on, walk_on,
 };
 use omaha_histories::print_history;
 use package_files::Folders;

@@ -1,3 +1,4 @@
+mod AnswerLemmas
 mod CountLemmas
 mod DescriptionLemmas
 mod KeepingLemmas

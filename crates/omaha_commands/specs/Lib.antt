@@ -1,3 +1,4 @@
+pub mod Answering
 pub mod Applying
 pub mod Asking
 pub mod Certificates
@@ -7,6 +8,7 @@ pub mod Explaining
 pub mod Graphing
 pub mod Judging
 pub mod Keeping
+pub mod Once
 pub mod Operating
 pub mod Pieces
 pub mod Posting

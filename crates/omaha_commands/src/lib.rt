@@ -1,11 +1,11 @@
 //! The commands of `omaha` that serve nothing.
 //!
-//! `read_service` and `open_service` make a service of a profile: read `specs/Profiles.antt`. `report_on` does `check`,
-//! `certify` and `verify`: read `specs/Reports.antt`; `review_on` is `review`: read `specs/Reviewing.antt`; `graph_on`
-//! is `graph`: read `specs/Graphing.antt`. `compare_on` is `check` with a folder of packages, and `describe_files`
-//! describes files, by `package_files`: read `specs/Comparing.antt` and `specs/Describing.antt`. `print_script` is
-//! `script`: read `specs/Scripting.antt`. A script is applied to an edition as `specs/Applying.antt` says.
-//! `explain_code` prints what `failures` says of a code.
+//! `read_service` and `open_service` make a service of a profile: read `specs/Profiles.antt`. `respond` is `once`: read
+//! `specs/Once.antt`. `report_on` does `check`, `certify` and `verify`: read `specs/Reports.antt`; `review_on` is
+//! `review`: read `specs/Reviewing.antt`; `graph_on` is `graph`: read `specs/Graphing.antt`. `compare_on` is `check` with
+//! a folder of packages, and `describe_files` describes files, by `package_files`: read `specs/Comparing.antt` and
+//! `specs/Describing.antt`. `print_script` is `script`: read `specs/Scripting.antt`. A script is applied to an edition as
+//! `specs/Applying.antt` says. `explain_code` prints what `failures` says of a code.
 //!
 //! `walk_on` is walked by `update_client`: read `specs/Walking.antt`; `publish_on`, `raise_on`, `dump_on` and
 //! `status_on` post by it: read `specs/Operating.antt`, for a script that is only checked `specs/Judging.antt`, and for
@@ -27,6 +27,7 @@ mod fetching;
 mod graphing;
 mod judging;
 mod keeping;
+mod once;
 mod operating;
 mod printing;
 mod profile;
@@ -44,6 +45,7 @@ pub use crate::comparing::compare_on;
 pub use crate::describing::describe_files;
 pub use crate::explaining::explain_code;
 pub use crate::graphing::graph_on;
+pub use crate::once::{AnswerError, answer, respond};
 pub use crate::operating::{Manner, dump_on, publish_on, raise_on, status_on};
 pub use crate::printing::print;
 pub use crate::profile::{open_service, read_named, read_service, service_in};

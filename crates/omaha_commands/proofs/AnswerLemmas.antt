@@ -14,7 +14,7 @@ use Rattle.publisher.specs.Beginnings.{StartsWith}
 use Rattle.service_desks.specs.Workers.{Replies, stock_of}
 use Rattle.replies.specs.Answering.{IsReply}
 use Rattle.replies.specs.Asking.{AreGranted, GrantsFirst}
-use Rattle.omaha_cli.specs.Answering.{IsRepliedAlone, RepliesFor}
+use Rattle.omaha_commands.specs.Answering.{IsRepliedAlone, RepliesFor}
 
 -- the asks of the only worker
 pub only_worker : (workers : List (List Ask)) → length workers ≡ 1 → (asks : List Ask) × (workers ≡ asks ∷ [])

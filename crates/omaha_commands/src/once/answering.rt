@@ -4,7 +4,7 @@ ghost use Rattle.std.specs.Prelude.{◌≡◌, ◌∷◌, [], true, List, IfOk, 
 ghost use Rattle.catalogue.specs.Histories.{History};
 ghost use Rattle.mirror_ledger.specs.Asks.{Ask};
 ghost use Rattle.publisher.specs.Sights.{fresh};
-ghost use Rattle.omaha_cli.specs.Answering.{Answers, IsRepliedAlone, RepliesFor};
+ghost use Rattle.omaha_commands.specs.Answering.{Answers, IsRepliedAlone, RepliesFor};
 
 use crate::once::error::AnswerError;
 use editions::Edition;

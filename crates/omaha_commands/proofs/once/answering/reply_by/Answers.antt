@@ -1,8 +1,8 @@
 use Rattle.std.proofs.Common.{◌∙◌, ap, sym}
 use Rattle.std.proofs.lemmas.Bool.{eqb-true}
 use Rattle.publisher.specs.Sights.{Sight}
-use Rattle.omaha_cli.proofs.AnswerLemmas.{RepliesFor-seen, only_worker}
-use Rattle.omaha_cli.proofs.once.answering.reply_by.Goals as goal
+use Rattle.omaha_commands.proofs.AnswerLemmas.{RepliesFor-seen, only_worker}
+use Rattle.omaha_commands.proofs.once.answering.reply_by.Goals as goal
 
 pub returns : goal.returns
 returns g c = record {

@@ -11,7 +11,7 @@ use Rattle.catalogue.specs.declared.mirror.Mirror.{Mirror}
 use Rattle.service_desks.specs.Workers.{Replies, stock_of as offered_by}
 use Rattle.replies.specs.Answering.{IsReply, Stock}
 use Rattle.replies.specs.Asking.{AreGranted}
-use Rattle.omaha_cli.specs.declared.once.error.AnswerError.{AnswerError}
+use Rattle.omaha_commands.specs.declared.once.error.AnswerError.{AnswerError}
 use Rattle.service_desks.specs.declared.services.service.Service.{Service}
 
 -- what a service offers: its edition's content, at its mirrors

@@ -12,7 +12,7 @@ use Rattle.omaha_commands.specs.Profiles.{Files, IsServed}
 use Rattle.omaha_commands.specs.Streams.{Streams}
 use Rattle.failures.specs.declared.failure.Failure.{Failure}
 use Rattle.failures.specs.declared.failure.Failure.TheVariants as failure
-use Rattle.omaha_cli.specs.Answering.{IsAnswerTo}
+use Rattle.omaha_commands.specs.Answering.{IsAnswerTo}
 
 -- rule: Maximum of the input
 -- how many bytes a request may have

@@ -1,6 +1,6 @@
 use Rattle.std.proofs.Common.{◌≡◌, ◌∙◌, true, ap, is_ok, not}
-use Rattle.omaha_cli.proofs.AnswerLemmas.{IfOk-of, IsRepliedAlone-reply, alone_last, only_till}
-use Rattle.omaha_cli.proofs.once.answering.OneReplyWork.work.Goals as goal
+use Rattle.omaha_commands.proofs.AnswerLemmas.{IfOk-of, IsRepliedAlone-reply, alone_last, only_till}
+use Rattle.omaha_commands.proofs.once.answering.OneReplyWork.work.Goals as goal
 
 pub returns-clause-works : goal.returns-clause-works
 returns-clause-works g c =

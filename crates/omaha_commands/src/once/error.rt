@@ -15,7 +15,7 @@ pub enum AnswerError {
 
 impl From<AllocError> for AnswerError {
     ghost use Rattle.std.specs.Prelude.{◌≡◌};
-    ghost use Rattle.omaha_cli.specs.declared.once.error.AnswerError.TheVariants.{Memory};
+    ghost use Rattle.omaha_commands.specs.declared.once.error.AnswerError.TheVariants.{Memory};
 
     ghost from_gives = { λ _ error. error ≡ Memory };
 
