@@ -2,6 +2,7 @@
 use Rattle.std.proofs.Common.{◌≡◌, ◌∙◌, ap, ℕ, List, Option, Some, None}
 use Rattle.std.specs.Borrow.{Bor}
 use Rattle.std.specs.Option.{option_map, option_or}
+use Rattle.failures.specs.Explanations.{string_in}
 
 -- what was found, as a string
 abbrev pub shown : Option (Bor (List ℕ)) → Option (List ℕ)
@@ -14,3 +15,8 @@ first-shown None two {found = found} same next =
     next ∙ ap (λ (said : Option (List ℕ)). option_or said found) same
 first-shown (Some text) two {found = found} same next =
     ap (λ (said : Option (List ℕ)). option_or said found) same
+
+-- what was found in the same entries
+pub said-by : (code : List ℕ) → {found : Option (List ℕ)} {entries table : List (List ℕ × List ℕ)} →
+    found ≡ string_in entries code → entries ≡ table → found ≡ string_in table code
+said-by code same is = same ∙ ap (λ (entries : List (List ℕ × List ℕ)). string_in entries code) is

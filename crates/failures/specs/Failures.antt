@@ -47,6 +47,22 @@ failure_string (failure.Declined reply) = codes "declined"
 failure_string failure.Memory = codes "memory"
 failure_string failure.Write = codes "write"
 
+-- what is printed of a failure that prints as a word
+abbrev pub word_of : Failure → List ℕ
+word_of failure.HistoryFull = codes "history full"
+word_of failure.Read = codes "read"
+word_of failure.TooLong = codes "read"
+word_of failure.NoPlace = codes "no place"
+word_of failure.Closed = codes "closed"
+word_of failure.Thread = codes "thread"
+word_of failure.RoomLeft = codes "room left"
+word_of failure.Unpublished = codes "unpublished"
+word_of failure.EndedEarly = codes "ended early"
+word_of (failure.Declined reply) = codes "declined"
+word_of failure.Memory = codes "memory"
+word_of failure.Write = codes "write"
+word_of other = codes ""
+
 -- the operator's listener declined, and said why on the standard output
 abbrev pub is_declined : Failure → Bool
 is_declined (failure.Declined reply) = true

@@ -12,6 +12,7 @@ mod explaining;
 mod lines;
 mod profiles;
 mod requests;
+mod tables;
 mod walks;
 mod words;
 

@@ -1,5 +1,5 @@
 ghost use Rattle.std.specs.Prelude.{◌≡◌, Some};
-ghost use Rattle.failures.specs.Failures.{failure_string, is_declined};
+ghost use Rattle.failures.specs.Failures.{failure_string, is_declined, word_of};
 
 use crate::history_fault::HistoryFault;
 use catalogue::Refused;
@@ -118,6 +118,27 @@ impl Drop for Failure {
     }
 }
 
+// What is printed of a failure that prints as a word.
+fn word_of(failure: &Failure) -> &'static str
+    ensures { result.now ≡ word_of failure.now }
+{
+    match failure {
+        Failure::HistoryFull => "history full",
+        Failure::Read => "read",
+        Failure::TooLong => "read",
+        Failure::NoPlace => "no place",
+        Failure::Closed => "closed",
+        Failure::Thread => "thread",
+        Failure::RoomLeft => "room left",
+        Failure::Unpublished => "unpublished",
+        Failure::EndedEarly => "ended early",
+        Failure::Declined(_) => "declined",
+        Failure::Memory => "memory",
+        Failure::Write => "write",
+        _ => "",
+    }
+}
+
 // rule: Printed failure
 impl fmt::Display for Failure {
     ghost output = { λ f. Some (failure_string f) };
@@ -144,16 +165,13 @@ impl fmt::Display for Failure {
                 };
                 write!(f, "{lacking}")
             }
-            Failure::Profile(fault) => write!(f, "{fault}"),
-            Failure::Edit(refused) => write!(f, "{refused}"),
+            Failure::Profile(fault) => fmt::Display::fmt(fault, f),
+            Failure::Edit(refused) => fmt::Display::fmt(refused, f),
             Failure::Script(fault) => write!(f, "script {fault}"),
             Failure::Stale(number) => write!(f, "stale {number}"),
-            Failure::HistoryFull => write!(f, "history full"),
             Failure::Stuck(count) => write!(f, "stuck {count}"),
-            Failure::Read => write!(f, "read"),
-            Failure::TooLong => write!(f, "read"),
-            Failure::Request(fault) => write!(f, "{fault}"),
-            Failure::Certificate(fault) => write!(f, "{fault}"),
+            Failure::Request(fault) => fmt::Display::fmt(fault, f),
+            Failure::Certificate(fault) => fmt::Display::fmt(fault, f),
             Failure::Code(code) => {
                 let code = Shown {
                     string: code.as_str(),
@@ -178,16 +196,8 @@ impl fmt::Display for Failure {
                 };
                 write!(f, "stopping {address}")
             }
-            Failure::NoPlace => write!(f, "no place"),
-            Failure::Closed => write!(f, "closed"),
-            Failure::Thread => write!(f, "thread"),
-            Failure::RoomLeft => write!(f, "room left"),
-            Failure::Unpublished => write!(f, "unpublished"),
-            Failure::EndedEarly => write!(f, "ended early"),
-            Failure::Walk(fault) => write!(f, "{fault}"),
-            Failure::Declined(_) => write!(f, "declined"),
-            Failure::Memory => write!(f, "memory"),
-            Failure::Write => write!(f, "write"),
+            Failure::Walk(fault) => fmt::Display::fmt(fault, f),
+            _ => f.write_str(word_of(self)),
         }
     }
 }

@@ -2,6 +2,7 @@
 
 ghost use Rattle.std.specs.Prelude.{◌≡◌, Some};
 ghost use Rattle.failures.specs.HistoryFaults.{cause_string, history_fault_string};
+ghost use Rattle.failures.specs.declared.history_fault.HistoryFault.TheVariants as history;
 
 use crate::record_fault::RecordFault;
 use kept_records::{AppendFault, Cause, OpenFault};
@@ -56,24 +57,40 @@ fn cause_string(cause: Cause) -> &'static str
     }
 }
 
+// Why a history can't be opened.
+fn open_string(fault: &OpenFault) -> &'static str
+    ensures { result.now ≡ history_fault_string (history.Open fault.now) }
+{
+    match fault {
+        OpenFault::Foreign => "not a history",
+        OpenFault::Busy => "in use by another program",
+        OpenFault::Unopened => "cannot be opened",
+        OpenFault::Parted => {
+            "has a log, but its file is missing or empty: put the file back, or move the log away"
+        }
+        OpenFault::Failed(cause) => cause_string(*cause),
+    }
+}
+
+// Why a record can't be kept.
+fn append_string(fault: &AppendFault) -> &'static str
+    ensures { result.now ≡ history_fault_string (history.Append fault.now) }
+{
+    match fault {
+        AppendFault::Taken => "another program has added a record",
+        AppendFault::Full => "full",
+        AppendFault::Failed(cause) => cause_string(*cause),
+        AppendFault::Unknown(cause) => cause_string(*cause),
+    }
+}
+
 impl fmt::Display for HistoryFault {
     ghost output = { λ fault. Some (history_fault_string fault) };
 
     fn fmt<W: fmt::Write>(&self, f: &mut fmt::Formatter<W>) -> fmt::Result {
         match self {
-            HistoryFault::Open(OpenFault::Foreign) => f.write_str("not a history"),
-            HistoryFault::Open(OpenFault::Busy) => f.write_str("in use by another program"),
-            HistoryFault::Open(OpenFault::Unopened) => f.write_str("cannot be opened"),
-            HistoryFault::Open(OpenFault::Parted) => f.write_str(
-                "has a log, but its file is missing or empty: put the file back, or move the log away",
-            ),
-            HistoryFault::Open(OpenFault::Failed(cause)) => f.write_str(cause_string(*cause)),
-            HistoryFault::Append(AppendFault::Taken) => {
-                f.write_str("another program has added a record")
-            }
-            HistoryFault::Append(AppendFault::Full) => f.write_str("full"),
-            HistoryFault::Append(AppendFault::Failed(cause)) => f.write_str(cause_string(*cause)),
-            HistoryFault::Append(AppendFault::Unknown(cause)) => f.write_str(cause_string(*cause)),
+            HistoryFault::Open(fault) => f.write_str(open_string(fault)),
+            HistoryFault::Append(fault) => f.write_str(append_string(fault)),
             HistoryFault::Record(number, fault) => write!(f, "record {number}: {fault}"),
             HistoryFault::OtherProfile => f.write_str(
                 "begins with another profile: leave --profile out, or begin another file",

@@ -3,14 +3,9 @@
 ghost use Rattle.std.specs.Prelude.{◌≡◌, option_map};
 ghost use Rattle.failures.specs.Explanations.{entries_of, explanation_of, string_in};
 
-use crate::explanations::budgets::BUDGETS;
-use crate::explanations::certificates::CERTIFICATES;
-use crate::explanations::edits::EDITS;
-use crate::explanations::lines::LINES;
-use crate::explanations::profiles::PROFILES;
-use crate::explanations::requests::REQUESTS;
-use crate::explanations::walks::WALKS;
-use crate::explanations::words::WORDS;
+use crate::explanations::tables::{
+    budgets, certificates, edits, lines, profiles, requests, walks, words,
+};
 use std::alloc::{AllocError, Global};
 
 // What a table says of a code.
@@ -34,14 +29,14 @@ fn find(table: &[(&'static str, &'static str)], code: &str) -> Option<&'static s
 pub fn explain(code: &str) -> Option<&'static str>
     ensures { option_map (λ text. text.now) result ≡ explanation_of code.now }
 {
-    find(&EDITS, code)
-        .or(find(&BUDGETS, code))
-        .or(find(&PROFILES, code))
-        .or(find(&REQUESTS, code))
-        .or(find(&CERTIFICATES, code))
-        .or(find(&WALKS, code))
-        .or(find(&WORDS, code))
-        .or(find(&LINES, code))
+    find(edits(), code)
+        .or(find(budgets(), code))
+        .or(find(profiles(), code))
+        .or(find(requests(), code))
+        .or(find(certificates(), code))
+        .or(find(walks(), code))
+        .or(find(words(), code))
+        .or(find(lines(), code))
 }
 
 // The first line of each entry.
@@ -55,14 +50,14 @@ fn push_all(lines: &mut String, table: &[(&'static str, &'static str)]) -> Resul
 
 /// Lists the codes and first words with their names, a line each.
 pub fn list(alloc: Global) -> Result<String, AllocError> {
-    let mut lines = String::new(alloc);
-    push_all(&mut lines, &EDITS)?;
-    push_all(&mut lines, &BUDGETS)?;
-    push_all(&mut lines, &PROFILES)?;
-    push_all(&mut lines, &REQUESTS)?;
-    push_all(&mut lines, &CERTIFICATES)?;
-    push_all(&mut lines, &WALKS)?;
-    push_all(&mut lines, &WORDS)?;
-    push_all(&mut lines, &LINES)?;
-    Ok(lines)
+    let mut list = String::new(alloc);
+    push_all(&mut list, edits())?;
+    push_all(&mut list, budgets())?;
+    push_all(&mut list, profiles())?;
+    push_all(&mut list, requests())?;
+    push_all(&mut list, certificates())?;
+    push_all(&mut list, walks())?;
+    push_all(&mut list, words())?;
+    push_all(&mut list, lines())?;
+    Ok(list)
 }
