@@ -3,7 +3,7 @@ use Rattle.std.specs.Prelude.{ℕ, List, [], ◌∷◌, map, Option, Some, None,
 use Rattle.std.specs.Borrow.{Bor}
 use Rattle.std.specs.Option.{option_or}
 use Rattle.failures.specs.declared.explanations.budgets.TheConstants.{BUDGETS}
-use Rattle.failures.specs.declared.explanations.certificates.TheConstants.{CERTIFICATES}
+use Rattle.failures.specs.declared.explanations.certificate_codes.TheConstants.{CERTIFICATES}
 use Rattle.failures.specs.declared.explanations.edits.TheConstants.{EDITS}
 use Rattle.failures.specs.declared.explanations.lines.TheConstants.{LINES}
 use Rattle.failures.specs.declared.explanations.profiles.TheConstants.{PROFILES}

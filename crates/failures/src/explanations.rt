@@ -6,7 +6,7 @@
 //! It holds strings: when a code is printed is said where the fault is found.
 
 mod budgets;
-mod certificates;
+mod certificate_codes;
 mod edits;
 mod explaining;
 mod lines;

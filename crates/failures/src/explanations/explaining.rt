@@ -4,7 +4,7 @@ ghost use Rattle.std.specs.Prelude.{◌≡◌, option_map};
 ghost use Rattle.failures.specs.Explanations.{entries_of, explanation_of, string_in};
 
 use crate::explanations::tables::{
-    budgets, certificates, edits, lines, profiles, requests, walks, words,
+    budgets, certificate_codes, edits, lines, profiles, requests, walks, words,
 };
 use std::alloc::{AllocError, Global};
 
@@ -33,7 +33,7 @@ pub fn explain(code: &str) -> Option<&'static str>
         .or(find(budgets(), code))
         .or(find(profiles(), code))
         .or(find(requests(), code))
-        .or(find(certificates(), code))
+        .or(find(certificate_codes(), code))
         .or(find(walks(), code))
         .or(find(words(), code))
         .or(find(lines(), code))
@@ -55,7 +55,7 @@ pub fn list(alloc: Global) -> Result<String, AllocError> {
     push_all(&mut list, budgets())?;
     push_all(&mut list, profiles())?;
     push_all(&mut list, requests())?;
-    push_all(&mut list, certificates())?;
+    push_all(&mut list, certificate_codes())?;
     push_all(&mut list, walks())?;
     push_all(&mut list, words())?;
     push_all(&mut list, lines())?;

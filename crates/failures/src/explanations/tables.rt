@@ -3,7 +3,7 @@
 ghost use Rattle.std.specs.Prelude.{◌≡◌, map};
 ghost use Rattle.failures.specs.Explanations.{entries_of};
 ghost use Rattle.failures.specs.declared.explanations.budgets.TheConstants.{BUDGETS};
-ghost use Rattle.failures.specs.declared.explanations.certificates.TheConstants.{CERTIFICATES};
+ghost use Rattle.failures.specs.declared.explanations.certificate_codes.TheConstants.{CERTIFICATES};
 ghost use Rattle.failures.specs.declared.explanations.edits.TheConstants.{EDITS};
 ghost use Rattle.failures.specs.declared.explanations.lines.TheConstants.{LINES};
 ghost use Rattle.failures.specs.declared.explanations.profiles.TheConstants.{PROFILES};
@@ -12,7 +12,7 @@ ghost use Rattle.failures.specs.declared.explanations.walks.TheConstants.{WALKS}
 ghost use Rattle.failures.specs.declared.explanations.words.TheConstants.{WORDS};
 
 use crate::explanations::budgets::BUDGETS;
-use crate::explanations::certificates::CERTIFICATES;
+use crate::explanations::certificate_codes::CERTIFICATES;
 use crate::explanations::edits::EDITS;
 use crate::explanations::lines::LINES;
 use crate::explanations::profiles::PROFILES;
@@ -49,7 +49,7 @@ pub(crate) fn requests() -> &'static [(&'static str, &'static str)]
 }
 
 /// The entries of certificates.
-pub(crate) fn certificates() -> &'static [(&'static str, &'static str)]
+pub(crate) fn certificate_codes() -> &'static [(&'static str, &'static str)]
     ensures { entries_of result.now ≡ map (λ entry. (entry.0.now, entry.1.now)) CERTIFICATES }
 {
     &CERTIFICATES
