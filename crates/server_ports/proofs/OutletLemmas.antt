@@ -1,8 +1,10 @@
 -- The senders of a server's lines, by where they are written.
-use Rattle.std.proofs.Common.{◌≡◌, ◌∙◌, ◌+◌, ◌&&◌, ℕ, Bool, true, false, List, ◌++◌, Option, Some, None, arith, if◌then◌else◌, is_some, length, not, option_to_list, refl, sym, subst, ap}
+use Rattle.std.proofs.Common.{◌≡◌, ◌∙◌, ◌+◌, ◌<◌, ◌&&◌, ℕ, Bool, true, false, List, ◌++◌, Option, Some, None, arith, if◌then◌else◌, is_some, length, not, option_to_list, refl, sym, subst, ap}
 use Rattle.std.proofs.lemmas.List.{length-append}
 use Rattle.http_ports.specs.Speech.{one_if}
 use Rattle.access_logs.specs.Queues.{Sending}
+use Rattle.server_ports.specs.Logging.{FitOutlets}
+use Rattle.server_ports.specs.declared.place.Place.{Place}
 
 pub length-option : {A : Type 0} (option : Option A) → length (option_to_list option) ≡ one_if (is_some option)
 length-option None = refl
@@ -40,3 +42,26 @@ pub clients_many :
     length rest ≡ (if log then workers else 0)
 clients_many true operated workers all rest last parted so many = left_of all rest last operated workers parted so many
 clients_many false operated workers all rest last parted so many = left_of all rest last false 0 parted so many
+
+-- what fits the pages that there were fits those that are there
+pub fit-by :
+    (place : Place) (errors file errors' file' : Bool) → errors' ≡ errors → file' ≡ file → FitOutlets place errors file →
+    FitOutlets place errors' file'
+fit-by place errors file errors' file' same are fit =
+    subst (λ (e : Bool). FitOutlets place e file') (sym same) (subst (λ (f : Bool). FitOutlets place errors f) (sym are) fit)
+
+-- the server's own sender is there
+pub own-there :
+    {B : Type 0} (errors : Option B) (ports long : ℕ) (named : Bool) → (named ≡ true → is_some errors ≡ true) →
+    long ≡ (if is_some errors then ports + one_if named else 0) → named ≡ true → 0 < long
+own-there None ports long named written many so = cc (written so)
+own-there (Some page) ports long true written many so = omega (arith, many)
+own-there (Some page) ports long false written many so = cc so
+
+-- and the operator's
+pub operators-there :
+    (log operated : Bool) (workers long : ℕ) → long ≡ (if log then workers + one_if operated else 0) →
+    (log && operated) ≡ true → 0 < long
+operators-there true true workers long many so = omega (arith, many)
+operators-there true false workers long many so = cc so
+operators-there false operated workers long many so = cc so

@@ -62,23 +62,56 @@ fn all_new(alloc: Global, senders: Vec<LineSender>) -> Result<Vec<NewSender>, Al
     Ok(made)
 }
 
-// Opens lines of so many senders, and gives what writes them; without a page there are no senders.
+// The senders of lines, and what writes these, if something does.
+struct Lines<'p, F: WriteWhole> {
+    senders: Vec<NewSender>,
+    writing: Option<Writing<'p, F>>,
+}
+
+// Written out, so that no caller proves again how each part is dropped.
+impl<F: WriteWhole> Drop for Lines<'_, F> {
+    fn drop(self) {
+        let Lines {
+            senders: _,
+            writing: _,
+        } = self;
+    }
+}
+
+impl<'p, F: WriteWhole> Lines<'p, F> {
+    // Gives both.
+    fn into_parts(self) -> (Vec<NewSender>, Option<Writing<'p, F>>)
+        ensures senders { result.0 ≡ self.entry.senders }
+        ensures writing { result.1 ≡ self.entry.writing }
+    {
+        let Lines { senders, writing } = self;
+        (senders, writing)
+    }
+}
+
+// Opens lines of so many senders; without a page there are no senders.
 fn open_lines<'p, F: WriteWhole + Send>(
     alloc: Global,
     count: usize,
     page: Option<Page<'p, F>>,
-) -> Result<(Vec<NewSender>, Option<Writing<'p, F>>), AllocError>
+) -> Result<Lines<'p, F>, AllocError>
     requires uncut { IfSome page IsUncut }
-    ensures many { IfOk result (λ made. length made.0.items ≡ (if is_some page.entry then count else 0)) }
-    ensures opened { IfOk result (λ made. IfSome made.1 (λ writing. writing.opened.value.items ≡ made.0.items)) }
-    ensures page { IfOk result (λ made. Both (λ page writing. writing.page ≡ page) page.entry made.1) }
+    ensures many { IfOk result (λ made. length made.senders.items ≡ (if is_some page.entry then count else 0)) }
+    ensures opened { IfOk result (λ made. IfSome made.writing (λ writing. writing.opened.value.items ≡ made.senders.items)) }
+    ensures page { IfOk result (λ made. Both (λ page writing. writing.page ≡ page) page.entry made.writing) }
 {
     let Some(page) = page else {
-        return Ok((Vec::new(alloc), None));
+        return Ok(Lines {
+            senders: Vec::new(alloc),
+            writing: None,
+        });
     };
     let (senders, writing) = Writing::open(alloc, count, ROOM, page)?;
     let senders = all_new(alloc, senders)?;
-    Ok((senders, Some(writing)))
+    Ok(Lines {
+        senders,
+        writing: Some(writing),
+    })
 }
 
 // How many ports there are whose replies are logged, if they are at all.
@@ -142,8 +175,41 @@ fn part_last<T: Drop>(senders: Vec<T>, is_parted: bool) -> (Vec<T>, Option<T>)
     (senders, last)
 }
 
+// Gives each port its sender to the log, and the server its own, if its place has a name; the log is of the file, or of the
+// standard error.
+fn part_lines<'p, S, R: Wait, F: WriteWhole + Send>(
+    setup: &Setup<'_, S, R>,
+    is_here: bool,
+    filed: Lines<'p, File>,
+    here: Lines<'p, F>,
+) -> (Senders, Writings<'p, F>)
+    requires fit { FitOutlets setup.now.place.now (is_some here.writing) (is_some filed.writing) }
+    requires is_here { is_here ≡ (is_some setup.now.place.now.log && not (is_some filed.writing)) }
+    requires filed { length filed.senders.items
+        ≡ (if is_some filed.writing then setup.now.place.now.workers + one_if (is_some setup.now.place.now.operator) else 0) }
+    requires here { length here.senders.items
+        ≡ (if is_some here.writing then (if is_here then setup.now.place.now.workers + one_if (is_some setup.now.place.now.operator) else 0) + one_if (is_some setup.now.place.now.named) else 0) }
+    requires filed_opened { IfSome filed.writing (λ writing. writing.opened.value.items ≡ filed.senders.items) }
+    requires here_opened { IfSome here.writing (λ writing. writing.opened.value.items ≡ here.senders.items) }
+    ensures many { length result.0.clients.items ≡ (if is_some setup.now.place.now.log then setup.now.place.now.workers else 0) }
+    ensures operator { is_some result.0.operator ≡ (is_some setup.now.place.now.log && is_some setup.now.place.now.operator) }
+    ensures opened { AreOpened (is_some setup.now.place.now.named) (result.0.clients.items ++ option_to_list result.0.operator)
+        (option_map (λ writing. writing.opened.value.items) here.entry.writing) (option_map (λ writing. writing.opened.value.items) filed.entry.writing) }
+    ensures errors { result.1.errors ≡ here.entry.writing }
+    ensures file { result.1.file ≡ filed.entry.writing }
+{
+    let (filed, file) = filed.into_parts();
+    let (others, errors) = here.into_parts();
+    let (others, own) = part_last(others, setup.place.named.is_some());
+    setup.notes.lock(setup.rt).begin(lines_of(own));
+    let senders = choose(is_here, others, filed);
+    let (clients, operator) = part_last(senders, is_operator_logged(setup.place));
+    (Senders { clients, operator }, Writings { errors, file })
+}
+
 /// Opens the lines of a server: its replies', if they are logged, and what it says of itself, whose lines go to the standard
-/// error. It takes the pages, also if it fails.
+/// error. Each port has a sender to the log, if there is one, and the server has its own, if its place has a name. It takes
+/// the pages, also if it fails, as it does if memory runs out.
 pub fn open_outlets<'p, S, R: Wait + AllocGlobal, F: WriteWhole + Send>(
     setup: &Setup<'_, S, R>,
     outlets: &mut Outlets<'p, F>,
@@ -159,19 +225,14 @@ pub fn open_outlets<'p, S, R: Wait + AllocGlobal, F: WriteWhole + Send>(
     ensures filed { IfOk result (λ made. is_some made.1.file ≡ is_some outlets.old.file) }
 {
     let (alloc, place) = (setup.rt.alloc(), setup.place);
-    let (filed, file) = open_lines(alloc, count_ports(place, true), outlets.file.take())?;
-    let is_here = is_on_errors(place, file.is_some());
+    let filed = open_lines(alloc, count_ports(place, true), outlets.file.take())?;
+    let is_here = is_on_errors(place, filed.writing.is_some());
     let count = with_one(count_ports(place, is_here), place.named.is_some());
-    let (others, errors) = open_lines(alloc, count, outlets.errors.take())?;
-    let (others, own) = part_last(others, place.named.is_some());
-    setup.notes.lock(setup.rt).begin(lines_of(own));
-    let senders = choose(is_here, others, filed);
-    let (clients, operator) = part_last(senders, is_operator_logged(place));
-    let senders = Senders { clients, operator };
-    Ok((senders, Writings { errors, file }))
+    let here = open_lines(alloc, count, outlets.errors.take())?;
+    Ok(part_lines(setup, is_here, filed, here))
 }
 
-/// Starts the thread of what writes lines, if there is something.
+/// Starts the thread of what writes lines, if there is something. Fails with `Thread` if it can't be started.
 pub fn start_writing<'s, 'p, E, R: Wait + Sync, F: WriteWhole + Send>(
     scope: &Scope<'s, E>,
     rt: &'s R,
