@@ -1,15 +1,22 @@
 -- Scripts whose packages are looked for.
-use Rattle.std.proofs.Common.{◌≡◌, ◌∙◌, ℕ, List, Option, Some, None, Result, Ok, Err, ap, subst, sym}
+use Rattle.std.proofs.Common.{◌≡◌, ◌≢◌, ◌∙◌, ℕ, List, Option, Some, None, Result, Ok, Err, ap, inl, inr, subst, sym}
 use Rattle.catalogue.specs.declared.edit.Edit.{Edit}
+use Rattle.http_desks.specs.Calls.{Asks}
 use Rattle.http_desks.specs.declared.desk.Answer.{Answer}
+use Rattle.http_desks.specs.declared.desk.DeskStatus.{DeskStatus}
 use Rattle.http_desks.specs.declared.desk.Off.{Off}
 use Rattle.http_desks.specs.declared.desk.Off.TheVariants as off
 use Rattle.package_files.specs.Lacking.{AreThere, IsLooked, Sizes, sizes_in}
 use Rattle.package_files.specs.declared.lacking.Lacking.{Lacking}
 use Rattle.profile_toml.specs.Reading.{script_of_bytes}
 use Rattle.profile_toml.specs.declared.fault.ProfileFault.{ProfileFault}
-use Rattle.omaha_server.specs.Checking.{IsLookedAt, StopsFor}
-use Rattle.omaha_server.specs.Checks.{IsStocked}
+use Rattle.systems.specs.Edges.{Edges}
+use Rattle.omaha_server.specs.Checking.{ChecksBody, IsLookedAt, IsStop, StopsFor}
+use Rattle.omaha_server.specs.Checks.{ChecksCall, IsStocked, IsStopped, sizes_at}
+use Rattle.omaha_server.specs.Outcomes.{status_word, stop_word}
+use Rattle.omaha_server.specs.Overviews.{Overview}
+use Rattle.omaha_server.specs.Serving.{IsAsked, IsPassed}
+use Rattle.server_ports.specs.declared.place.Place.{Place}
 
 -- the edits of a script, or others if it is none
 abbrev edits_or : List Edit → Result (ℕ × List Edit) ProfileFault → List Edit
@@ -42,3 +49,23 @@ StopsFor-looked sizes body base batch (Err lacking) (Some (Ok answer)) read firs
 }
 StopsFor-looked sizes body base batch (Err lacking) (Some (Err off.Memory)) read first named = tt
 StopsFor-looked sizes body base batch (Err lacking) (Some (Err off.Closed)) read first named = absurd named
+
+-- a reply in place of the desk's, as a call
+stopped-by :
+    (sizes : Sizes) (body : List ℕ) (moment : ℕ) (answer : Result (DeskStatus × List ℕ) Off) → IsStop sizes body answer →
+    IsStopped sizes (Asks body moment answer)
+stopped-by sizes body moment (Ok reply) rejected = rejected
+stopped-by sizes body moment (Err off.Memory) stop = tt
+stopped-by sizes body moment (Err off.Closed) never = never
+
+-- a body that is no word, as a call of the operator
+pub called-checked :
+    (edges : Edges) (place : Place) (before after : Overview) (body : List ℕ) (moment : ℕ)
+    (answer : Result (DeskStatus × List ℕ) Off) → body ≢ status_word → body ≢ stop_word →
+    ChecksBody place.packages_must_exist (sizes_at edges place) before.state body moment answer after.state →
+    after.ending ≡ before.ending →
+    ChecksCall (IsPassed edges place) place.packages_must_exist (sizes_at edges place) IsAsked before (Asks body moment answer) after
+called-checked edges place before after body moment answer differs unlike (inl (must, stop, same)) ending =
+    inl (inr (inr (must, stopped-by (sizes_at edges place) body moment answer stop, record { state = same; ending = ending })))
+called-checked edges place before after body moment answer differs unlike (inr (stocked, called)) ending =
+    inr ((differs, unlike, stocked), (called, ending))

@@ -1,8 +1,9 @@
 -- Calls that come to nothing which is counted, and say nothing of the history.
-use Rattle.std.proofs.Common.{◌≡◌, ◌≤◌, ◌+◌, ◌∙◌, ℕ, Bool, false, List, Option, Some, None, Result, Ok, Err, ap, arith, length, nat_lt, refl, subst, sym}
+use Rattle.std.proofs.Common.{◌≡◌, ◌≤◌, ◌+◌, ◌∙◌, ℕ, Bool, false, true, List, MatchResult, Option, Some, None, Result, Ok, Err, ap, arith, length, nat_lt, refl, subst, sym}
 use Rattle.std.proofs.lemmas.Bool.Decides.{nat_tests}
 use Rattle.catalogue.specs.Histories.{History}
-use Rattle.http_desks.specs.Calls.{Asks}
+use Rattle.http_desks.specs.Calls.{Asks, answer_in}
+use Rattle.http_desks.specs.declared.desk.Answer.{Answer}
 use Rattle.http_desks.specs.declared.desk.DeskStatus.{DeskStatus}
 use Rattle.http_desks.specs.declared.desk.DeskStatus.TheVariants as status
 use Rattle.http_desks.specs.declared.desk.Off.{Off}
@@ -13,9 +14,10 @@ use Rattle.operator_pages.specs.declared.counts.Reach.{Reach}
 use Rattle.operator_pages.specs.declared.counts.Reach.TheVariants as reach
 use Rattle.operator_pages.specs.declared.publishes.Publish.{Publish}
 use Rattle.service_desks.specs.States.{State}
-use Rattle.omaha_server.specs.Outcomes.{outcome_in, reach_in, status_word}
+use Rattle.omaha_server.specs.Outcomes.{outcome_in, reach_in, status_word, stop_word}
 use Rattle.omaha_server.specs.Overviews.{Overview, counted_at, counts_after, has_more, publish_of, published_by, publishes_after, settled_count}
 use Rattle.omaha_server.specs.Showing.{ShowsStatus}
+use Rattle.omaha_server.specs.Stopping.{IsEnding, stopping_line}
 
 -- a call comes to nothing, and says nothing of the history
 abbrev pub IsNothing : Bool → List ℕ → Result (DeskStatus × List ℕ) Off → Type 0
@@ -37,6 +39,24 @@ status-nothing published version body before (Ok reply) is (shown, known, replie
     word-nothing published status_word body reply (refl, refl) is (ap (λ (r : DeskStatus × List ℕ). r.0) replied)
 status-nothing published version body before (Err off.Memory) is shows = (refl, refl)
 status-nothing published version body before (Err off.Closed) is never = absurd never
+
+pub stop-nothing :
+    (published : Bool) (body : List ℕ) (before after : Overview) (answer : Result (DeskStatus × List ℕ) Off) →
+    body ≡ stop_word → IsEnding before answer after → IsNothing published body answer
+stop-nothing published body before after (Ok reply) is (replied, same, ending) =
+    word-nothing published stop_word body reply (refl, refl) is (ap (λ (r : DeskStatus × List ℕ). r.0) replied)
+stop-nothing published body before after (Err off.Memory) is unmoved = (refl, refl)
+stop-nothing published body before after (Err off.Closed) is never = absurd never
+
+-- whoever asked the server to end has its reply, or there was no memory for it
+pub ending-stopped :
+    (before after : Overview) (result : Result Answer Off) → after.state ≡ before.state →
+    MatchResult result
+    (λ (answer : Answer). (answer.status ≡ status.Success) × (answer.body.items ≡ stopping_line) × (after.ending ≡ true))
+    (λ (error : Off). (error ≡ off.Memory) × (after.ending ≡ before.ending)) → IsEnding before (answer_in result) after
+ending-stopped before after (Ok answer) same (success, line, ending) = (cc (success, line), same, ending)
+ending-stopped before after (Err off.Memory) same (memory, ending) = record { state = same; ending = ending }
+ending-stopped before after (Err off.Closed) same (memory, ending) = cc memory
 
 -- what it leaves of the counts
 pub counts-nothing :

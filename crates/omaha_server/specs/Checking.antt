@@ -1,7 +1,7 @@
 -- The steps of a look for the packages of a script.
-use Rattle.std.specs.Prelude.{◌≡◌, ⊤, ℕ, Bool, true, List, Option, None, Some, Result, Ok, Err}
+use Rattle.std.specs.Prelude.{◌≡◌, ◌⊎◌, ⊤, ℕ, Bool, true, List, Option, None, Some, Result, Ok, Err}
 use Rattle.catalogue.specs.Histories.{History}
-use Rattle.http_desks.specs.Calls.{answer_in}
+use Rattle.http_desks.specs.Calls.{Asks, answer_in}
 use Rattle.http_desks.specs.declared.desk.Answer.{Answer}
 use Rattle.http_desks.specs.declared.desk.DeskStatus.{DeskStatus}
 use Rattle.http_desks.specs.declared.desk.DeskStatus.TheVariants as status
@@ -10,6 +10,8 @@ use Rattle.http_desks.specs.declared.desk.Off.TheVariants as off
 use Rattle.package_files.specs.Lacking.{Sizes}
 use Rattle.package_files.specs.declared.lacking.Lack.{Lack}
 use Rattle.package_files.specs.declared.lacking.Lacking.{Lacking}
+use Rattle.service_desks.specs.Operators.{IsCall as IsOperatorCall}
+use Rattle.service_desks.specs.States.{State}
 use Rattle.systems.specs.Edges.{Edges}
 use Rattle.omaha_server.specs.Checks.{HasPackages, IsRejected, IsStocked, LacksPackage, lacking_line}
 use Rattle.server_ports.specs.declared.error.ServerError.{ServerError}
@@ -43,6 +45,13 @@ StopsFor sizes body (Some reply) = IsStop sizes body (answer_in reply)
 abbrev pub StopsIf : Bool → Sizes → List ℕ → Option (Result Answer Off) → Type 0
 StopsIf must sizes body None = must ≡ true → IsStocked sizes body
 StopsIf must sizes body (Some reply) = (must ≡ true) × IsStop sizes body (answer_in reply)
+
+-- what a body comes to that is no word, if packages must exist: a reply in place of the desk's, and nothing changes; or the
+-- desk is asked
+abbrev pub ChecksBody : Bool → Sizes → State → List ℕ → ℕ → Result (DeskStatus × List ℕ) Off → State → Type 0
+ChecksBody must sizes before body moment answer after =
+    ((must ≡ true) × IsStop sizes body answer × (after ≡ before))
+    ⊎ ((must ≡ true → IsStocked sizes body) × IsOperatorCall before (Asks body moment answer) after)
 
 -- a server lacks a package of this name, unless memory runs out
 abbrev pub IsLackOf : List ℕ × Lack → ServerError → Type 0

@@ -5,8 +5,8 @@ ghost use Rattle.std.specs.Option.{ForSome};
 ghost use Rattle.http_desks.specs.Calls.{Asks, answer_in};
 ghost use Rattle.http_desks.specs.declared.desk.DeskStatus.TheVariants.{Success, UnprocessableContent};
 ghost use Rattle.http_desks.specs.declared.desk.Off.TheVariants.{Memory};
-ghost use Rattle.omaha_server.specs.Checking.{IsLookedAt, StopsFor, StopsIf};
-ghost use Rattle.omaha_server.specs.Checks.{lacking_line};
+ghost use Rattle.omaha_server.specs.Checking.{ChecksBody, IsLookedAt, StopsFor, StopsIf};
+ghost use Rattle.omaha_server.specs.Checks.{lacking_line, sizes_at};
 ghost use Rattle.omaha_server.specs.Overviews.{publish_of};
 ghost use Rattle.omaha_server.specs.Stopping.{stopping_line};
 ghost use Rattle.profile_toml.specs.Laws.{AreMirrors};
@@ -177,6 +177,63 @@ fn stopping(alloc: Global) -> Result<Answer, Off>
     }
 }
 
+// Asks the server to end, and replies to whoever asked for it, unless memory runs out.
+fn stop_server<S: System<P>, R: Wait + AllocGlobal, P: Port>(
+    setup: &Setup<'_, S, R>,
+    ending: &mut bool,
+) -> Result<Answer, Off>
+    ensures { MatchResult result
+        (λ answer. (answer.status ≡ Success) × (answer.body.items ≡ stopping_line) × (ending.new ≡ true))
+        (λ off. (off ≡ Memory) × (ending.new ≡ ending.old)) }
+{
+    match stopping(setup.rt.alloc()) {
+        Ok(answer) => {
+            *ending = true;
+            end_server::<S, R, P>(setup);
+            Ok(answer)
+        }
+        Err(off) => Err(off),
+    }
+}
+
+// Replies to a body that asks for neither the status nor the server's end, by the operator's desk, unless it is a script that
+// adds a package which isn't there and must be.
+fn answer_checked<S: System<P>, R: Threads + Wait + AllocGlobal, P: Port, B: Budgets, K: Records>(
+    setup: &Setup<'_, S, R>,
+    press: &mut Press,
+    budgets: &mut B,
+    records: &mut K,
+    due: &mut Option<Prepared>,
+    body: &[u8],
+    moment: u64,
+) -> Result<Answer, Off>
+    requires listed { AreMirrors (B.present budgets.old) }
+    requires rising { B.rises budgets.old ≡ true }
+    requires followed { ForSome due.old (λ next. GoesOn next press.old) }
+    ensures listed { AreMirrors (B.present budgets.new) }
+    ensures rising { B.rises budgets.new ≡ true }
+    ensures followed { ForSome due.new (λ next. GoesOn next press.new) }
+    ensures called { ChecksBody setup.now.place.now.packages_must_exist (sizes_at (S.edges setup.now.system.now) setup.now.place.now)
+        (record { mirrors = B.present budgets.old; history = press.old; store = store (K.first records.old) (K.kept records.old) due.old })
+        body.now moment (answer_in result)
+        (record { mirrors = B.present budgets.new; history = press.new; store = store (K.first records.new) (K.kept records.new) due.new }) }
+{
+    let place = setup.place;
+    let folder = SystemFolder::<S, P>::new(setup.system, place.packages.as_str());
+    let must = place.packages_must_exist;
+    match stop_if(setup.rt.alloc(), must, &folder, body) {
+        Some(stopped) => {
+            note_stop(setup, &stopped);
+            stopped
+        }
+        None => {
+            let answered = ask_over(setup, press, budgets, records, due, body, moment);
+            note_answer::<S, R, P>(setup, body, &answered);
+            answered
+        }
+    }
+}
+
 /// The operator's desk, which looks for packages first: if the place's packages must exist, it isn't asked for a script
 /// that adds one which isn't in the folder with its size. It isn't asked for the status, nor for pages, nor when the
 /// server is asked to end.
@@ -245,21 +302,12 @@ impl<S: System<P>, R: Threads + Wait + AllocGlobal, P: Port, B: Budgets, K: Reco
     }
 
     fn answer(&mut self, body: &[u8], moment: u64) -> Result<Answer, Off> {
-        let place = self.setup.place;
-        let rt = self.setup.rt;
         if body == b"stop".as_slice() {
-            return match stopping(rt.alloc()) {
-                Ok(answer) => {
-                    self.ending = true;
-                    end_server::<S, R, P>(self.setup);
-                    Ok(answer)
-                }
-                Err(off) => Err(off),
-            };
+            return stop_server::<S, R, P>(self.setup, &mut self.ending);
         }
         if body == b"status".as_slice() {
             let circumstances = circumstances_of(self.records, self.counts, self.ending);
-            let version = place.version.as_str();
+            let version = self.setup.place.version.as_str();
             let publishes = self.publishes.as_slice();
             return show_status(
                 self.setup,
@@ -270,36 +318,21 @@ impl<S: System<P>, R: Threads + Wait + AllocGlobal, P: Port, B: Budgets, K: Reco
                 &circumstances,
             );
         }
-        let folder = SystemFolder::<S, P>::new(self.setup.system, place.packages.as_str());
-        let must = place.packages_must_exist;
         let count = settled_count(self.press, self.due);
-        match stop_if(rt.alloc(), must, &folder, body) {
-            Some(stopped) => {
-                note_stop(self.setup, &stopped);
-                let published = has_more(count, self.press);
-                let publish = publish_at(self.press, self.records, moment);
-                note_publish(&mut self.publishes, body, &stopped, published, publish);
-                self.counts = count_call(self.counts, body, &stopped, published, moment);
-                stopped
-            }
-            None => {
-                let answered = ask_over(
-                    self.setup,
-                    self.press,
-                    self.budgets,
-                    self.records,
-                    self.due,
-                    body,
-                    moment,
-                );
-                note_answer::<S, R, P>(self.setup, body, &answered);
-                let published = has_more(count, self.press);
-                let publish = publish_at(self.press, self.records, moment);
-                note_publish(&mut self.publishes, body, &answered, published, publish);
-                self.counts = count_call(self.counts, body, &answered, published, moment);
-                answered
-            }
-        }
+        let answered = answer_checked::<S, R, P, B, K>(
+            self.setup,
+            self.press,
+            self.budgets,
+            self.records,
+            self.due,
+            body,
+            moment,
+        );
+        let published = has_more(count, self.press);
+        let publish = publish_at(self.press, self.records, moment);
+        note_publish(&mut self.publishes, body, &answered, published, publish);
+        self.counts = count_call(self.counts, body, &answered, published, moment);
+        answered
     }
 
     fn package(&mut self, _name: &[u8]) -> Option<Declared> {

@@ -1,6 +1,6 @@
 // The connections of clients, of which each worker serves its port's.
 
-ghost use Rattle.std.specs.Prelude.{◌≡◌, ◌<◌, ◌∷◌, ◌++◌, All, IfOk, if◌then◌else◌, length, map};
+ghost use Rattle.std.specs.Prelude.{◌≡◌, ◌<◌, ◌∷◌, ◌++◌, [], All, IfOk, if◌then◌else◌, length, map};
 ghost use Rattle.std.specs.Option.{is_some};
 ghost use Rattle.catalogue.specs.Histories.{History};
 ghost use Rattle.publisher.specs.Sights.{fresh};
@@ -128,6 +128,25 @@ fn clients_of<'s, 'a, S, R, P: Port + Drop>(
     })
 }
 
+// Adds the connections of one more worker.
+fn add_clients<'s, 'a, S, R, P: Port + Drop>(
+    alloc: Global,
+    setup: &'s Setup<'a, S, R>,
+    jobs: &mut Vec<Clients<'s, 'a, S, R, P>>,
+    port: P,
+    view: View,
+    lines: Option<NewSender>,
+) -> Result<(), AllocError>
+    requires { IsNew P.terms P.slots P.accepted P.is_over port }
+    ensures ports { IfOk result (λ _. map (λ job. job.port) jobs.new.items ≡ map (λ job. job.port) jobs.old.items ++ port ∷ []) }
+    ensures lines { IfOk result (λ _. map (λ job. job.lines) jobs.new.items ≡ map (λ job. job.lines) jobs.old.items ++ lines ∷ []) }
+    ensures clients { IfOk result (λ _. All (IsClients setup.now view) jobs.old.items → All (IsClients setup.now view) jobs.new.items) }
+{
+    let clients = clients_of(alloc, setup, port, view, lines, jobs.len())?;
+    jobs.push(clients)?;
+    Ok(())
+}
+
 /// The connections of each worker, which has one of the ports, one of the views, and one of the log's senders, if there is a
 /// log.
 pub(crate) fn all_clients<'s, 'a, S, R, P: Port + Drop>(
@@ -154,10 +173,7 @@ pub(crate) fn all_clients<'s, 'a, S, R, P: Port + Drop>(
             unreachable!()
         };
         let line = senders.next();
-        let clients = clients_of(alloc, setup, port, view, line, jobs.len())?;
-        let Ok(()) = jobs.push(clients) else {
-            return Err(AllocError);
-        };
+        add_clients(alloc, setup, &mut jobs, port, view, line)?;
     }
     Ok(jobs)
 }

@@ -1,6 +1,7 @@
 // What the jobs of a server came to.
 
-ghost use Rattle.std.specs.Prelude.{◌≡◌, ◌⊎◌, ◌∷◌, ◌++◌, [], All, Err, IfErr, IfOk, IfSome, IsTrue, Ok, map, option_map, option_to_list};
+ghost use Rattle.std.specs.Prelude.{◌≡◌, ◌⊎◌, ◌∷◌, ◌++◌, [], All, Err, IfErr, IfOk, IfSome, IsTrue, Ok, map, option_map, option_to_list, true};
+ghost use Rattle.catalogue.specs.Histories.{History};
 ghost use Rattle.server_ports.specs.Logging.{log_at, those_of};
 ghost use Rattle.publisher.specs.Sights.{Allows};
 ghost use Rattle.server_ports.specs.Passages.{HasAcceptedAll, HaveAcceptedAll, passage_of, passages_of};
@@ -263,6 +264,64 @@ fn parts_of<P: Drop>(operator: Option<Served<P>>) -> (Option<ServedPort<P>>, Opt
     }
 }
 
+// The ports of workers and of the operator, with what was sent to the log, and its senders, if each worker's view may enter
+// what is published at the end.
+fn all_ports<P: Drop>(
+    alloc: Global,
+    clients: Vec<Visited<P>>,
+    served: Option<Served<P>>,
+    left: &Receipt,
+) -> Result<(ServedPorts<P>, Vec<EndedSender>), ServerError>
+    ensures clients { IfOk result (λ made. made.0.clients.items ≡ map (λ visited. visited.served.port) clients.items) }
+    ensures operator { IfOk result (λ made. made.0.operator ≡ option_map (λ served. served.port) served) }
+    ensures log { IfOk result (λ made. made.0.log
+        ≡ those_of (map (λ visited. visited.served.log) clients.items) ++ option_to_list (log_at served)) }
+    ensures senders { IfOk result (λ made. made.1.items ≡ made.0.log) }
+    ensures allowed { IfOk result (λ _. All (λ visited. Allows visited.view left.now) clients.items) }
+    ensures err { IfErr result (λ error. (error ≡ Unpublished) ⊎ (error ≡ Memory)) }
+{
+    let (clients, log) = published_ports(alloc, clients, left)?.into_parts();
+    let (operator, own) = parts_of(served);
+    let Ok(senders) = with_operators(log, own) else {
+        return Err(ServerError::Memory);
+    };
+    let ports = ServedPorts {
+        clients,
+        operator,
+        log: log_of(&senders),
+    };
+    Ok((ports, senders))
+}
+
+// The same, if there is a receipt of what is published, and each port accepted all its connections, or the server was asked
+// to end.
+fn ended_ports<P: Port + Drop>(
+    alloc: Global,
+    clients: Vec<Visited<P>>,
+    served: Option<Served<P>>,
+    left: &Result<Receipt, AllocError>,
+    ending: bool,
+) -> Result<(ServedPorts<P>, Vec<EndedSender>), ServerError>
+    ensures clients { IfOk result (λ made. made.0.clients.items ≡ map (λ visited. visited.served.port) clients.items) }
+    ensures operator { IfOk result (λ made. made.0.operator ≡ option_map (λ served. served.port) served) }
+    ensures log { IfOk result (λ made. made.0.log
+        ≡ those_of (map (λ visited. visited.served.log) clients.items) ++ option_to_list (log_at served)) }
+    ensures senders { IfOk result (λ made. made.1.items ≡ made.0.log) }
+    ensures allowed { IfOk result (λ _. (history : History) × (left.now ≡ Ok history)
+        × All (λ visited. Allows visited.view history) clients.items) }
+    ensures whole { IfOk result (λ made. (ending ≡ true) ⊎ HaveAcceptedAll (passages_of P.terms P.slots P.accepted made.0)) }
+    ensures err { IfErr result (λ error. (error ≡ Unpublished) ⊎ (error ≡ EndedEarly) ⊎ (error ≡ Memory)) }
+{
+    let Ok(left) = left else {
+        return Err(ServerError::Memory);
+    };
+    let (ports, senders) = all_ports(alloc, clients, served, left)?;
+    if !ending && !have_accepted_all(&ports) {
+        return Err(ServerError::EndedEarly);
+    }
+    Ok((ports, senders))
+}
+
 // rule: Run of a service
 /// The ports and the totals of jobs that came to their ends, what was sent to the log, and its senders, if each worker's view
 /// may enter what the operator left, and each port accepted all its connections, or the server was asked to end.
@@ -276,21 +335,8 @@ pub(crate) fn published_run<P: Port + Drop>(
 {
     let (clients, own, totals) = ended.into_parts();
     let (served, left, ending) = own.into_parts();
-    let Ok(left) = left else {
-        return Err(ServerError::Memory);
-    };
-    let (clients, log) = published_ports(alloc, clients, &left)?.into_parts();
-    let (operator, own) = parts_of(served);
-    let Ok(senders) = with_operators(log, own) else {
-        return Err(ServerError::Memory);
-    };
-    let ports = ServedPorts {
-        clients,
-        operator,
-        log: log_of(&senders),
-    };
-    if !ending && !have_accepted_all(&ports) {
-        return Err(ServerError::EndedEarly);
+    match ended_ports(alloc, clients, served, &left, ending) {
+        Ok((ports, senders)) => Ok((Run { ports, totals }, senders)),
+        Err(error) => Err(error),
     }
-    Ok((Run { ports, totals }, senders))
 }

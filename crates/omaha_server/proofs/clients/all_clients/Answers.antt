@@ -1,9 +1,7 @@
 use Rattle.std.proofs.Common.{◌≡◌, ◌∙◌, ◌++◌, [], ◌∷◌, ℕ, append_assoc, ap, arith, if◌then◌else◌, is_some, length, map, refl, suc, sym, vec_len, Some}
 use Rattle.std.specs.Vec.Iter.{into_iter_items, into_iter_len}
-use Rattle.std.proofs.lemmas.List.{map-append}
 use Rattle.std.proofs.lemmas.List.Elements.{All-nil, All-pop, All-push}
 use Rattle.publisher.specs.Sights.{fresh}
-use Rattle.omaha_server.specs.Jobs.{IsClients}
 use Rattle.server_ports.specs.Logging.{those_of}
 use Rattle.omaha_server.proofs.ClientLemmas.{left_so, lines_all, lines_so, next_so, none_left, still_sized}
 use Rattle.omaha_server.proofs.clients.all_clients.Goals as goal
@@ -31,7 +29,6 @@ loop-port-init g c =
 pub loop-port-preserved : goal.loop-port-preserved
 loop-port-preserved g c =
     let at = c.loop-port in
-    let made = c.in_ok-clients.clients in
     let steps : into_iter_items at.port-iterator ≡ c.in-Some.port ∷ into_iter_items c.next.new.self = c.in-Some.ensures.steps.0 in
     let short = ap length steps in
     let others = rw steps at at.invariant.others in
@@ -44,27 +41,19 @@ loop-port-preserved g c =
           omega arith;
       left = omega (arith, at.invariant.left, short, c.in-Some-pop.ensures.cases, at.views.ok.0, c.pop.new.self.ok.0);
       new = λ k d below. (rw steps at at.invariant.new) (suc k) d (omega (arith, below));
-      ports =
-          rw c.in-Ok.ensures.items
-          (map-append (λ job. job.port) at.jobs.items (made ∷ [])
-          ∙ ap (λ ports. ports ++ made.port ∷ []) at.invariant.ports
-          ∙ ap (λ port. at.yielded ++ port ∷ []) c.in_ok-clients.ensures.port);
+      ports = c.in_ok-add_clients.ensures.ports ∙ ap (λ ports. ports ++ c.in-Some.port ∷ []) at.invariant.ports;
       jobs = λ history all.
           let (views, jobs) = at.invariant.jobs history all in
-          let (others, one) = All-pop (λ sight. sight ≡ fresh history) at.views.items c.pop.new.self.items (Some c.in-Some-pop.view) c.in-Some-pop.ensures.items views in (
-            others,
-            rw c.in-Ok.ensures.items
-                (All-push (IsClients c.args.setup.now (fresh history)) at.jobs.items made jobs (rw one at c.in_ok-clients.ensures.clients)),
-          );
+          let (others, one) = All-pop (λ sight. sight ≡ fresh history) at.views.items c.pop.new.self.items (Some c.in-Some-pop.view) c.in-Some-pop.ensures.items views in
+          (others, (rw one at c.in_ok-add_clients.ensures.clients) jobs);
       lines =
-          rw c.in-Ok.ensures.items
-          (ap (λ lines. those_of lines ++ into_iter_items c.next-line.new.self) (map-append (λ job. job.lines) at.jobs.items (made ∷ []))
-          ∙ lines_so (map (λ job. job.lines) at.jobs.items) c.next-line.result made.lines (into_iter_items at.senders)
-          (into_iter_items c.next-line.new.self) _ c.in_ok-clients.ensures.lines c.next-line.ensures.items at.invariant.lines);
+          ap (λ lines. those_of lines ++ into_iter_items c.next-line.new.self) c.in_ok-add_clients.ensures.lines
+          ∙ lines_so (map (λ job. job.lines) at.jobs.items) c.next-line.result c.next-line.result (into_iter_items at.senders)
+          (into_iter_items c.next-line.new.self) _ refl c.next-line.ensures.items at.invariant.lines;
       lined =
-          rw (c.in-Ok.ensures.items, map-append (λ job. job.lines) at.jobs.items (made ∷ []))
-          (All-push (λ line. is_some line ≡ is_some c.args.setup.now.place.now.log) (map (λ job. job.lines) at.jobs.items) made.lines
-          at.invariant.lined (ap is_some c.in_ok-clients.ensures.lines ∙ next));
+          rw c.in_ok-add_clients.ensures.lines
+          (All-push (λ line. is_some line ≡ is_some c.args.setup.now.place.now.log) (map (λ job. job.lines) at.jobs.items)
+          c.next-line.result at.invariant.lined next);
       sized = still_sized c.next-line.result (into_iter_items at.senders) (into_iter_items c.next-line.new.self) _ _
           c.next-line.ensures.items c.next-line.ensures.len at.invariant.sized;
       others = left_so (is_some c.args.setup.now.place.now.log) c.next-line.result _ _ (length (into_iter_items c.next.new.self)) next
