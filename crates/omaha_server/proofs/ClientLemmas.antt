@@ -3,7 +3,7 @@ use Rattle.std.proofs.Common.{◌≡◌, ◌∙◌, ◌↔◌, ℕ, suc, ◌+◌
 use Rattle.std.proofs.lemmas.List.{length-append}
 use Rattle.access_logs.specs.Queues.{Sending}
 use Rattle.server_ports.specs.Logging.{those_of}
-use Rattle.server_ports.proofs.SenderLemmas.{those_of-more}
+use Rattle.omaha_server.proofs.SenderLemmas.{those_of-more}
 
 -- a port of a server whose replies are logged has a sender, and each other port none
 pub next_so :

@@ -3,5 +3,7 @@ mod CheckLemmas
 mod ChoiceLemmas
 mod ClientLemmas
 mod CountLemmas
+mod PageLemmas
 mod RunLemmas
+mod SenderLemmas
 mod ShowLemmas

@@ -53,7 +53,7 @@ use Rattle.streams.specs.Streams.{Known}
 use Rattle.streams.specs.Writing.{Breaks}
 use Rattle.omaha_server.proofs.AlongLemmas.{Leads-operated, Leads-worked}
 use Rattle.omaha_server.proofs.ChoiceLemmas.{AllZip-by, chosen}
-use Rattle.server_ports.proofs.SenderLemmas.{AreSame, ended-all, logged-all}
+use Rattle.omaha_server.proofs.SenderLemmas.{AreSame, ended-all, logged-all}
 
 -- each job that came to its end
 ends-each :

@@ -1,10 +1,13 @@
 // The jobs of a server, beside the threads of what writes their lines.
 
-ghost use Rattle.std.specs.Prelude.{◌≡◌, ◌⊎◌, All, IfErr, IfOk, IfSome, length, map, option_map};
+ghost use Rattle.std.specs.Prelude.{◌≡◌, ◌⊎◌, ◌-◌, All, IfErr, IfOk, IfSome, length, map, option_map};
+ghost use Rattle.std.specs.List.{AllZip};
 ghost use Rattle.std.specs.Option.{is_some};
 ghost use Rattle.http_ports.specs.Speech.{one_if};
 ghost use Rattle.access_logs.specs.Pages.{IsUncut};
+ghost use Rattle.access_logs.specs.Queues.{HaveEnded};
 ghost use Rattle.publisher.specs.Sights.{fresh};
+ghost use Rattle.rtrb.specs.Ring.{SameProducer};
 ghost use Rattle.omaha_server.specs.Jobs.{IsManned};
 ghost use Rattle.server_ports.specs.Logging.{AreLogged, AreOpened, Both, FitOutlets, IsFilled, senders_of, unless};
 ghost use Rattle.server_ports.specs.Passages.{passages_of};
@@ -18,7 +21,7 @@ use crate::clients::Clients;
 use crate::crew::{Crew, Publishing, crew_of};
 use crate::operating::Operating;
 use crate::running::{Run, ends_of, published_run};
-use access_logs::Page;
+use access_logs::{EndedSender, Page, WriterThread};
 use http_ports::Port;
 use kept_records::Records;
 use mirror_ledger::run_with_tills;
@@ -27,6 +30,7 @@ use server_ports::{
     Outlets, ServerError, Setup, Writings, by_page, finish_writing, open_place, start_writing,
 };
 use service_desks::Mirrors;
+use std::fs::File;
 use std::sync::Wait;
 use std::thread;
 use std::thread::{Scope, Threads};
@@ -35,12 +39,92 @@ use streams::WriteWhole;
 use systems::System;
 use worker_threads::Gate;
 
+// Starts the threads of what writes the lines of a server, each if there is something for it.
+fn start_both<'s, 'p, E, R: Wait + Sync, F: WriteWhole + Send>(
+    scope: &Scope<'s, E>,
+    rt: &'s R,
+    writings: Writings<'p, F>,
+) -> Result<
+    (
+        Option<WriterThread<'s, 'p, R, F>>,
+        Option<WriterThread<'s, 'p, R, File>>,
+    ),
+    ServerError,
+>
+where
+    'p: 's,
+    ensures errors { IfOk result (λ threads. Both (λ writing thread. thread.began.value ≡ writing) writings.entry.errors threads.0) }
+    ensures file { IfOk result (λ threads. Both (λ writing thread. thread.began.value ≡ writing) writings.entry.file threads.1) }
+    ensures err { IfErr result (λ error. error ≡ Thread) }
+{
+    let Writings { errors, file } = writings;
+    let errors = start_writing(scope, rt, errors)?;
+    let file = start_writing(scope, rt, file)?;
+    Ok((errors, file))
+}
+
+// Ends both threads, once the log's senders have ended, and gives the page of the standard error back with what they have
+// sent, unless that went to the file.
+fn finish_both<'p, R: Threads + Wait + AllocGlobal, F: WriteWhole + Send>(
+    rt: &R,
+    errors: Option<WriterThread<'_, 'p, R, F>>,
+    file: Option<WriterThread<'_, 'p, R, File>>,
+    ended: Vec<EndedSender>,
+) -> Option<Page<'p, F>>
+    requires here { IfSome errors (λ thread. HaveEnded thread.began.value.opened.value.items
+        (unless (is_some file) ended.items)) }
+    requires there { IfSome file (λ thread. HaveEnded thread.began.value.opened.value.items ended.items) }
+    ensures written { Both (λ thread page. IsFilled F.output
+        (length thread.began.value.opened.value.items - length (unless (is_some file.entry) ended.items))
+        (map (λ sender. sender.sent) (unless (is_some file.entry) ended.items)) thread.began.value.page page)
+        errors.entry result }
+{
+    let (here, filed) = by_page(rt.alloc(), file.is_some(), ended);
+    // Nobody knows what the file has: the system opened it.
+    let _ = finish_writing(rt, file, filed);
+    finish_writing(rt, errors, here)
+}
+
+// Runs the jobs of the workers and of the operator, with a till for each worker, and gives the log's senders with the ports.
+// The press still shows what the operator left when the workers' views are compared with it.
+fn run_manned<
+    P: Port + Send + Drop,
+    S: System<P> + Sync,
+    R: Clock + Threads + Wait + Sync + AllocGlobal,
+    G: Gate + Sync,
+    K: Records,
+>(
+    setup: &Setup<'_, S, R>,
+    gate: &G,
+    mirrors: Mirrors,
+    jobs: Vec<Clients<'_, '_, S, R, P>>,
+    own: &mut Operating<'_, '_, S, R, P, K>,
+) -> Result<(Run<P>, Vec<EndedSender>), ServerError>
+    requires manned { IsManned (S.edges setup.now.system.now) P.terms setup.now jobs.items own.old }
+    ensures ok { IfOk result (λ made. AreTotals (S.edges setup.now.system.now) setup.now.place.now
+        (record { edition = own.old.press; mirrors = mirrors })
+        (begun own.old.press (K.first own.old.records) (K.kept own.old.records)).store
+        (passages_of P.terms P.slots P.accepted made.0.ports) made.0.totals.items) }
+    ensures replies { IfOk result (λ made. AreLogged (is_some setup.now.place.now.log)
+        (passages_of P.terms P.slots P.accepted made.0.ports) (map (λ ended. ended.sent) made.0.ports.log)) }
+    ensures same { IfOk result (λ made. AllZip (λ sender ended. SameProducer sender.end ended.end)
+        (senders_of (map (λ job. job.lines) jobs.entry.items) own.old.lines) made.0.ports.log) }
+    ensures senders { IfOk result (λ made. made.1.items ≡ made.0.ports.log) }
+    ensures err { IfErr result (λ error. (error ≡ Thread) ⊎ (error ≡ RoomLeft) ⊎ (error ≡ Unpublished) ⊎ (error ≡ EndedEarly) ⊎ (error ≡ Memory)) }
+{
+    let rt = setup.rt;
+    let ran = run_with_tills(rt, rt.alloc(), mirrors.into_vec(), gate, jobs, own);
+    setup.notes.lock(rt).end();
+    let ended = ends_of(rt.alloc(), ran)?;
+    let (run, senders) = published_run(rt.alloc(), ended)?;
+    Ok((run, senders))
+}
+
 // rule: Totals of a server
 // rule: Log of a server
 // rule: Standard error of a server
 // Runs the jobs of the workers and of the operator, with a till for each worker, beside a thread for each page that
-// lines are written to, and gives the page of the standard error back with what was sent to it. The press still shows what
-// the operator left when the workers' views are compared with it.
+// lines are written to, and gives the page of the standard error back with what was sent to it.
 fn run_within<
     's,
     'a,
@@ -78,17 +162,9 @@ where
     ensures err { IfErr result (λ error. (error ≡ Thread) ⊎ (error ≡ RoomLeft) ⊎ (error ≡ Unpublished) ⊎ (error ≡ EndedEarly) ⊎ (error ≡ Memory)) }
 {
     let rt = setup.runtime();
-    let Writings { errors, file } = writings;
-    let errors = start_writing(scope, rt, errors)?;
-    let file = start_writing(scope, rt, file)?;
-    let ran = run_with_tills(rt, rt.alloc(), mirrors.into_vec(), gate, jobs, own);
-    setup.notes.lock(rt).end();
-    let ended = ends_of(rt.alloc(), ran)?;
-    let (run, senders) = published_run(rt.alloc(), ended)?;
-    let (here, filed) = by_page(rt.alloc(), file.is_some(), senders);
-    // Nobody knows what the file has: the system opened it.
-    let _ = finish_writing(rt, file, filed);
-    Ok((run, finish_writing(rt, errors, here)))
+    let (errors, file) = start_both(scope, rt, writings)?;
+    let (run, senders) = run_manned(setup, gate, mirrors, jobs, own)?;
+    Ok((run, finish_both(rt, errors, file, senders)))
 }
 
 // The same, with the threads that it starts.

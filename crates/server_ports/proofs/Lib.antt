@@ -1,3 +1,2 @@
 mod OutletLemmas
-pub mod PageLemmas
-pub mod SenderLemmas
+mod PageLemmas

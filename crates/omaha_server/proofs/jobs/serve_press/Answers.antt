@@ -1,6 +1,6 @@
 use Rattle.std.proofs.Common.{is_some, map}
 use Rattle.http_ports.specs.Speech.{one_if}
-use Rattle.server_ports.proofs.PageLemmas.{written-over}
+use Rattle.omaha_server.proofs.PageLemmas.{written-over}
 use Rattle.omaha_server.proofs.jobs.serve_press.Goals as goal
 
 pub returns-in_ok-run-in-Ok-crew_of-clause-page : goal.returns-in_ok-run-in-Ok-crew_of-clause-page

@@ -4,7 +4,7 @@ use Rattle.std.proofs.lemmas.List.{map-append}
 use Rattle.std.proofs.lemmas.List.Elements.{All-push}
 use Rattle.publisher.specs.Sights.{Allows}
 use Rattle.server_ports.specs.Logging.{those_of}
-use Rattle.server_ports.proofs.SenderLemmas.{those_of-more}
+use Rattle.omaha_server.proofs.SenderLemmas.{those_of-more}
 use Rattle.omaha_server.proofs.running.published_ports.Goals as goal
 
 pub loop-visited-preserved : goal.loop-visited-preserved

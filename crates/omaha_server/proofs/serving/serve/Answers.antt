@@ -2,7 +2,7 @@ use Rattle.std.proofs.Common.{rules, is_some, map}
 use Rattle.http_ports.specs.Speech.{one_if}
 use Rattle.server_ports.specs.Passages.{passages_of}
 use Rattle.server_ports.specs.Logging.{IsSilent}
-use Rattle.server_ports.proofs.PageLemmas.{beside-lines, here-lines, silent-lines}
+use Rattle.omaha_server.proofs.PageLemmas.{beside-lines, here-lines, silent-lines}
 use Rattle.omaha_server.proofs.serving.serve.Goals as goal
 
 pub returns-in-Some-clause-lines : goal.returns-in-Some-clause-lines
