@@ -7,7 +7,7 @@ use Rattle.omaha_arguments.specs.declared.command.Invocation.{Invocation}
 use Rattle.omaha_arguments.specs.declared.error.ArgumentError.{ArgumentError}
 use Rattle.omaha_arguments.specs.declared.error.ArgumentError.TheVariants as argument
 use Rattle.omaha_commands.specs.Operating.{Listeners}
-use Rattle.omaha_commands.specs.Streams.{Streams}
+use Rattle.profiles.specs.Streams.{Streams}
 use Rattle.failures.specs.declared.failure.Failure.{Failure}
 use Rattle.omaha_cli.specs.Doing.{Does, Logs}
 use Rattle.omaha_cli.specs.Worlds.{World}

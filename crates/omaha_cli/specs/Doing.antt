@@ -15,7 +15,7 @@ use Rattle.omaha_commands.specs.Reviewing.{Reviews}
 use Rattle.omaha_commands.specs.Scripting.{PrintsScript}
 use Rattle.omaha_commands.specs.Stopping.{Stops}
 use Rattle.omaha_cli.specs.Serving.{IsQuiet, ServesOn}
-use Rattle.omaha_commands.specs.Streams.{Streams}
+use Rattle.profiles.specs.Streams.{Streams}
 use Rattle.omaha_commands.specs.Walking.{WalksOn}
 use Rattle.omaha_cli.specs.Worlds.{World}
 use Rattle.omaha_arguments.specs.declared.command.Command.{Command}

@@ -11,11 +11,11 @@ use Rattle.omaha_arguments.specs.declared.error.ArgumentError.{ArgumentError}
 use Rattle.omaha_arguments.specs.declared.error.ArgumentError.TheVariants as argument
 use Rattle.advice.specs.Advising.{IsAdvice}
 use Rattle.advice.specs.Looks.{Sights}
-use Rattle.omaha_commands.specs.Profiles.{Files}
+use Rattle.profiles.specs.Profiles.{Files}
 use Rattle.omaha_cli.specs.Doing.{Does, Logs}
 use Rattle.failures.specs.Failures.{failure_string, is_declined}
 use Rattle.omaha_commands.specs.Operating.{Listeners}
-use Rattle.omaha_commands.specs.Streams.{Streams}
+use Rattle.profiles.specs.Streams.{Streams}
 use Rattle.omaha_cli.specs.Worlds.{World}
 use Rattle.failures.specs.declared.failure.Failure.{Failure}
 use Rattle.failures.specs.declared.failure.Failure.TheVariants as failure

@@ -14,8 +14,8 @@ use Rattle.server_ports.specs.declared.error.ServerError.{ServerError}
 use Rattle.server_ports.specs.declared.error.ServerError.TheVariants as server
 use Rattle.server_ports.specs.declared.place.Place.{Place}
 use Rattle.service_desks.specs.States.{store}
-use Rattle.omaha_commands.specs.Profiles.{Files}
-use Rattle.omaha_commands.specs.Streams.{Streams}
+use Rattle.profiles.specs.Profiles.{Files}
+use Rattle.profiles.specs.Streams.{Streams}
 use Rattle.failures.specs.declared.failure.Failure.{Failure}
 use Rattle.failures.specs.declared.failure.Failure.TheVariants as failure
 use Rattle.omaha_histories.specs.Histories.{Beginning, IsBegun, Stored}

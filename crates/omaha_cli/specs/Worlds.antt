@@ -5,7 +5,7 @@ use Rattle.systems.specs.Edges.{Edges}
 use Rattle.package_files.specs.Storages.{Storage}
 use Rattle.update_client.specs.Endings.{Endings}
 use Rattle.update_client.specs.Walks.{Post}
-use Rattle.omaha_commands.specs.Profiles.{Files}
+use Rattle.profiles.specs.Profiles.{Files}
 use Rattle.omaha_commands.specs.Operating.{Listeners}
 use Rattle.omaha_histories.specs.Histories.{Stored}
 

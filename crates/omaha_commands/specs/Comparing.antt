@@ -12,8 +12,8 @@ use Rattle.package_files.specs.Storages.{Storage}
 use Rattle.catalogue.specs.Lookups.{packages_of}
 use Rattle.omaha_commands.specs.Summaries.{summary_of}
 use Rattle.omaha_arguments.specs.declared.command.Comparison.{Comparison}
-use Rattle.omaha_commands.specs.Profiles.{Files, IsServed}
-use Rattle.omaha_commands.specs.Streams.{Streams}
+use Rattle.profiles.specs.Profiles.{Files, IsServed}
+use Rattle.profiles.specs.Streams.{Streams}
 use Rattle.failures.specs.declared.failure.Failure.{Failure}
 use Rattle.failures.specs.declared.failure.Failure.TheVariants as failure
 

@@ -1,8 +1,8 @@
 -- What the command `explain` prints; this project's profile.
 use Rattle.std.specs.Prelude.{◌≡◌, ◌⊎◌, ℕ, List, Option, Some, None, Result, Ok, Err}
 use Rattle.failures.specs.Explanations.{explanation_of}
-use Rattle.omaha_commands.specs.Reports.{Prints}
-use Rattle.omaha_commands.specs.Streams.{Streams}
+use Rattle.profiles.specs.Printing.{Prints}
+use Rattle.profiles.specs.Streams.{Streams}
 use Rattle.failures.specs.declared.failure.Failure.{Failure}
 use Rattle.failures.specs.declared.failure.Failure.TheVariants as failure
 

@@ -13,9 +13,9 @@ use Rattle.reviews.specs.Svg.{svg_string}
 use Rattle.reviews.specs.declared.pictures.picture.Picture.{Picture}
 use Rattle.reviews.specs.declared.pictures.view.View.{View}
 use Rattle.service_desks.specs.declared.services.service.Service.{Service}
-use Rattle.omaha_commands.specs.Profiles.{Files, IsServed}
-use Rattle.omaha_commands.specs.Reports.{Prints}
-use Rattle.omaha_commands.specs.Streams.{Streams}
+use Rattle.profiles.specs.Profiles.{Files, IsServed}
+use Rattle.profiles.specs.Printing.{Prints}
+use Rattle.profiles.specs.Streams.{Streams}
 use Rattle.omaha_arguments.specs.declared.command.Graph.{Graph}
 use Rattle.failures.specs.declared.failure.Failure.{Failure}
 use Rattle.failures.specs.declared.failure.Failure.TheVariants as failure

@@ -12,11 +12,11 @@ use Rattle.omaha_commands.specs.Applying.{Applies}
 use Rattle.omaha_commands.specs.Asking.{FailsAsked, HasEdition}
 use Rattle.omaha_commands.specs.Operating.{Listeners, is_input}
 use Rattle.omaha_commands.specs.Posting.{Posts}
-use Rattle.omaha_commands.specs.Profiles.{Files, IsMade, service_of_bytes}
-use Rattle.omaha_commands.specs.Reports.{Prints}
+use Rattle.profiles.specs.Profiles.{Files, IsMade, service_of_bytes}
+use Rattle.profiles.specs.Printing.{Prints}
 use Rattle.omaha_commands.specs.ScriptFiles.{IsScriptOf, Script, max_script}
 use Rattle.omaha_commands.specs.Stocking.{Stocks}
-use Rattle.omaha_commands.specs.Streams.{Streams}
+use Rattle.profiles.specs.Streams.{Streams}
 use Rattle.failures.specs.declared.failure.Failure.{Failure}
 use Rattle.failures.specs.declared.failure.Failure.TheVariants as failure
 

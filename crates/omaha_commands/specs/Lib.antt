@@ -12,7 +12,6 @@ pub mod Once
 pub mod Operating
 pub mod Pieces
 pub mod Posting
-pub mod Profiles
 pub mod Reports
 pub mod Reviewing
 pub mod ScriptFiles
@@ -20,6 +19,5 @@ pub mod Scripting
 pub mod ShownReplies
 pub mod Stocking
 pub mod Stopping
-pub mod Streams
 pub mod Summaries
 pub mod Walking

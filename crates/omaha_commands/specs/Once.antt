@@ -8,8 +8,8 @@ use Rattle.omaha_json.specs.RequestReading.{request_of_bytes}
 use Rattle.omaha_json.specs.declared.fault.RequestFault.{RequestFault}
 use Rattle.service_desks.specs.declared.services.service.Service.{Service}
 use Rattle.omaha_arguments.specs.declared.command.Once.{Once}
-use Rattle.omaha_commands.specs.Profiles.{Files, IsServed}
-use Rattle.omaha_commands.specs.Streams.{Streams}
+use Rattle.profiles.specs.Profiles.{Files, IsServed}
+use Rattle.profiles.specs.Streams.{Streams}
 use Rattle.failures.specs.declared.failure.Failure.{Failure}
 use Rattle.failures.specs.declared.failure.Failure.TheVariants as failure
 use Rattle.omaha_commands.specs.Answering.{IsAnswerTo}

@@ -6,9 +6,9 @@ use Rattle.streams.specs.Streams.{Known}
 use Rattle.streams.specs.Writing.{Breaks}
 use Rattle.update_client.specs.declared.posting.Reply.{Reply}
 use Rattle.omaha_arguments.specs.declared.command.Raise.{Raise}
-use Rattle.omaha_commands.specs.Profiles.{Files, IsUnread, max_profile}
+use Rattle.profiles.specs.Profiles.{Files, IsUnread, max_profile}
 use Rattle.omaha_commands.specs.ShownReplies.{printed_reply}
-use Rattle.omaha_commands.specs.Streams.{Streams}
+use Rattle.profiles.specs.Streams.{Streams}
 use Rattle.failures.specs.declared.failure.Failure.{Failure}
 use Rattle.failures.specs.declared.failure.Failure.TheVariants as failure
 

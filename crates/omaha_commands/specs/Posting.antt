@@ -4,9 +4,9 @@ use Rattle.streams.specs.Streams.{Known}
 use Rattle.package_files.specs.Storages.{Storage}
 use Rattle.omaha_arguments.specs.declared.command.Publication.{Publication}
 use Rattle.omaha_commands.specs.Operating.{IsScript, Listeners, PostsBytes}
-use Rattle.omaha_commands.specs.Profiles.{Files}
+use Rattle.profiles.specs.Profiles.{Files}
 use Rattle.omaha_commands.specs.Stocking.{StocksBytes}
-use Rattle.omaha_commands.specs.Streams.{Streams}
+use Rattle.profiles.specs.Streams.{Streams}
 use Rattle.failures.specs.declared.failure.Failure.{Failure}
 
 -- a script whose packages agree is sent; of another one nothing is

@@ -1,8 +1,6 @@
 -- What the commands that report on a profile find and print; this project's profile.
 use Rattle.std.specs.Prelude.{◌≡◌, ◌⊎◌, ℕ, List, ◌++◌, codes, length, Some, Result, Ok, Err}
-use Rattle.std.specs.Io.KnownBytes.{Appends}
 use Rattle.streams.specs.Reading.{IsWhole}
-use Rattle.streams.specs.Writing.{Breaks}
 use Rattle.catalogue.specs.declared.content.App.{App}
 use Rattle.editions.specs.Editions.{content_of}
 use Rattle.catalogue.specs.Histories.{History}
@@ -15,10 +13,11 @@ use Rattle.omaha_commands.specs.Summaries.{summary_of}
 use Rattle.certificates.specs.declared.fault.Fault.{Fault}
 use Rattle.values.specs.declared.read_error.ReadError.{ReadError}
 use Rattle.omaha_commands.specs.Applying.{Applies}
-use Rattle.omaha_commands.specs.Profiles.{Files, IsServed, IsUnreadable, max_profile}
+use Rattle.profiles.specs.Printing.{Prints}
+use Rattle.profiles.specs.Profiles.{Files, IsServed, IsUnreadable, max_profile}
 use Rattle.failures.specs.Rejections.{failure_of_certificate}
 use Rattle.omaha_commands.specs.ScriptFiles.{IsScriptOf, Script as Written}
-use Rattle.omaha_commands.specs.Streams.{Streams}
+use Rattle.profiles.specs.Streams.{Streams}
 use Rattle.omaha_arguments.specs.declared.command.Question.{Question}
 use Rattle.omaha_arguments.specs.declared.command.Question.TheVariants.{Check, Warn, Script, Certify, Verify}
 use Rattle.omaha_arguments.specs.declared.command.Report.{Report}
@@ -96,14 +95,6 @@ pub record IsReported (files : Files) (report : Report) (found : Result (List �
   pub made : Result Service Failure
   pub served : IsServed files (Some report.profile) made
   pub follows : IsFoundBy files report.question made found
-
--- what was found is printed and nothing else; or the writer failed within it; or nothing is printed
-abbrev pub Prints : Result (List ℕ) Failure → Streams → Streams → Result (Unit {0}) Failure → Type 0
-Prints (Ok text) old new (Ok done) =
-    Appends old.output.bytes new.output.bytes text × (new.input ≡ old.input)
-Prints (Ok text) old new (Err refusal) =
-    (refusal ≡ failure.Write) × Breaks old.output new.output text × (new.input ≡ old.input)
-Prints (Err refusal) old new result = (result ≡ Err refusal) × (new ≡ old)
 
 -- a report is found, and printed
 pub record Reports (files : Files) (report : Report) (old new : Streams) (result : Result (Unit {0}) Failure) : Type 0 where

@@ -23,9 +23,9 @@ use Rattle.omaha_arguments.specs.declared.command.Source.{Source}
 use Rattle.omaha_arguments.specs.declared.command.Source.TheVariants.{Profile, Server}
 use Rattle.update_client.specs.declared.posting.Reply.{Reply}
 use Rattle.omaha_commands.specs.Operating.{Listeners, PrintsBody}
-use Rattle.omaha_commands.specs.Profiles.{Files, IsMade, IsServed, service_of_bytes}
+use Rattle.profiles.specs.Profiles.{Files, IsMade, IsServed, service_of_bytes}
 use Rattle.omaha_commands.specs.ScriptFiles.{IsScriptRead, Script}
-use Rattle.omaha_commands.specs.Streams.{Streams}
+use Rattle.profiles.specs.Streams.{Streams}
 use Rattle.failures.specs.declared.failure.Failure.{Failure}
 use Rattle.failures.specs.declared.failure.Failure.TheVariants as failure
 use Rattle.omaha_commands.specs.declared.reviewing.Findings.{Findings}

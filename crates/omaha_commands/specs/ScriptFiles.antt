@@ -3,7 +3,7 @@ use Rattle.std.specs.Prelude.{◌≡◌, ◌⊎◌, ⊤, ℕ, true, List, Option
 use Rattle.streams.specs.Reading.{IsLonger, IsWhole}
 use Rattle.catalogue.specs.declared.edit.Edit.{Edit}
 use Rattle.profile_toml.specs.Reading.{script_of_bytes}
-use Rattle.omaha_commands.specs.Profiles.{Files}
+use Rattle.profiles.specs.Profiles.{Files}
 use Rattle.failures.specs.declared.failure.Failure.{Failure}
 use Rattle.failures.specs.declared.failure.Failure.TheVariants as failure
 

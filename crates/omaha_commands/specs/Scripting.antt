@@ -7,9 +7,9 @@ use Rattle.omaha_arguments.specs.declared.command.Base.TheVariants.{Number, Serv
 use Rattle.omaha_arguments.specs.declared.command.Script.{Script}
 use Rattle.omaha_commands.specs.Asking.{HasEdition}
 use Rattle.omaha_commands.specs.Operating.{Listeners}
-use Rattle.omaha_commands.specs.Reports.{Prints}
+use Rattle.profiles.specs.Printing.{Prints}
 use Rattle.omaha_commands.specs.Reviewing.{IsUnanswered}
-use Rattle.omaha_commands.specs.Streams.{Streams}
+use Rattle.profiles.specs.Streams.{Streams}
 use Rattle.failures.specs.declared.failure.Failure.{Failure}
 use Rattle.failures.specs.declared.failure.Failure.TheVariants as failure
 

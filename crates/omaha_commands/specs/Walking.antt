@@ -10,8 +10,8 @@ use Rattle.update_client.specs.declared.walking.Walk.{Walk as Walked}
 use Rattle.update_client.specs.Lines.{done_line}
 use Rattle.update_client.specs.Walking.{IsWalkOver}
 use Rattle.failures.specs.Rejections.{failure_of_walk}
-use Rattle.omaha_commands.specs.Reports.{Prints}
-use Rattle.omaha_commands.specs.Streams.{Streams}
+use Rattle.profiles.specs.Printing.{Prints}
+use Rattle.profiles.specs.Streams.{Streams}
 use Rattle.failures.specs.declared.failure.Failure.{Failure}
 use Rattle.failures.specs.declared.failure.Failure.TheVariants as failure
 

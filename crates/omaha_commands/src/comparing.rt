@@ -8,11 +8,11 @@ ghost use Rattle.package_files.specs.Findings.{AreFindings};
 ghost use Rattle.catalogue.specs.Lookups.{packages_of};
 ghost use Rattle.streams.specs.Streams.{Known};
 
-use crate::profile::open_profile;
 use crate::reports::summary;
 use failures::Failure;
 use omaha_arguments::Comparison;
 use package_files::{Finding, Folders, findings_string};
+use profiles::open_profile;
 use service_desks::Service;
 use std::alloc::{AllocError, Global};
 use std::thread::Threads;

@@ -4,9 +4,9 @@ ghost use Rattle.std.specs.Prelude.{Err, IfErr, IfOk, Ok, string_bytes};
 ghost use Rattle.omaha_commands.specs.Describing.{IsFailureAt, IsFound, PrintsDescriptions};
 ghost use Rattle.streams.specs.Streams.{Known};
 
-use crate::printing::print;
 use failures::Failure;
 use package_files::{DescribeError, Folders, describe_path};
+use profiles::print;
 use std::alloc::Global;
 use streams::WriteWhole;
 use values::Text;

@@ -4,8 +4,8 @@ ghost use Rattle.std.specs.Prelude.{Some};
 ghost use Rattle.omaha_commands.specs.Explaining.{Explains, PrintsSome, Says};
 ghost use Rattle.streams.specs.Streams.{Known};
 
-use crate::printing::print;
 use failures::{Failure, explain, list};
+use profiles::print;
 use std::alloc::Global;
 use streams::WriteWhole;
 use values::Text;

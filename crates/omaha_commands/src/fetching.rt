@@ -4,12 +4,12 @@ ghost use Rattle.std.specs.Prelude.{◌≡◌, ◌==◌, ◌≤◌, Err, IfErr, 
 ghost use Rattle.omaha_commands.specs.Reviewing.{FindsIfNamed, FindsInDump, FindsInReply, FindsOnServer, FindsPublished, FindsSaid, FindsScriptOn, IsDeclined, IsUnanswered, based_on, names_edition};
 
 use crate::asking::{SECONDS, dump_limits, line_limits};
-use crate::profile::read_service;
 use crate::reviewing::{Findings, Verdict, review_by};
 use catalogue::Batch;
 use editions::Edition;
 use failures::Failure;
 use omaha_arguments::Review;
+use profiles::read_service;
 use std::alloc::{AllocError, Global};
 use std::thread::Threads;
 use update_client::{Connector, Limits, LinkFault, Reply};

@@ -7,13 +7,12 @@ ghost use Rattle.reviews.specs.Scenes.{picture_of};
 ghost use Rattle.omaha_commands.specs.Graphing.{Draws, IsDrawn, IsGraph, PrintsGraph, cohort_in, drawn_string, release_in, release_named, subject_in, view_in};
 ghost use Rattle.streams.specs.Streams.{Known};
 
-use crate::printing::print;
-use crate::profile::open_profile;
 use catalogue::{App, Catalogue, Version};
 use certificates::Fault;
 use editions::Edition;
 use failures::Failure;
 use omaha_arguments::Graph;
+use profiles::{open_profile, print};
 use reviews::{Picture, TrackReview, View, picture_of, review_catalogue, write_dot, write_svg};
 use std::alloc::{AllocError, Global};
 use std::thread::Threads;

@@ -1,16 +1,15 @@
 //! The commands of `omaha` that serve nothing.
 //!
-//! `read_service` and `open_service` make a service of a profile: read `specs/Profiles.antt`. `respond` is `once`: read
-//! `specs/Once.antt`. `report_on` does `check`, `certify` and `verify`: read `specs/Reports.antt`; `review_on` is
-//! `review`: read `specs/Reviewing.antt`; `graph_on` is `graph`: read `specs/Graphing.antt`. `compare_on` is `check` with
-//! a folder of packages, and `describe_files` describes files, by `package_files`: read `specs/Comparing.antt` and
-//! `specs/Describing.antt`. `print_script` is `script`: read `specs/Scripting.antt`. A script is applied to an edition as
-//! `specs/Applying.antt` says. `explain_code` prints what `failures` says of a code.
+//! `respond` is `once`: read `specs/Once.antt`. `report_on` does `check`, `certify` and `verify`: read
+//! `specs/Reports.antt`; `review_on` is `review`: read `specs/Reviewing.antt`; `graph_on` is `graph`: read
+//! `specs/Graphing.antt`. `compare_on` is `check` with a folder of packages, and `describe_files` describes files, by
+//! `package_files`: read `specs/Comparing.antt` and `specs/Describing.antt`. `print_script` is `script`: read
+//! `specs/Scripting.antt`. A script is applied to an edition as `specs/Applying.antt` says. `explain_code` prints what
+//! `failures` says of a code.
 //!
 //! `walk_on` is walked by `update_client`: read `specs/Walking.antt`; `publish_on`, `raise_on`, `dump_on` and
 //! `status_on` post by it: read `specs/Operating.antt`, for a script that is only checked `specs/Judging.antt`, and for
 //! its packages `specs/Stocking.antt`. `stop_on` also waits for the end of a server: read `specs/Stopping.antt`.
-//! `print` writes what a command found.
 //!
 //! `reports` has what is reported of an edition, and the check of a table by several threads.
 //!
@@ -29,8 +28,6 @@ mod judging;
 mod keeping;
 mod once;
 mod operating;
-mod printing;
-mod profile;
 mod reporting;
 mod reports;
 mod reviewing;
@@ -47,8 +44,6 @@ pub use crate::explaining::explain_code;
 pub use crate::graphing::graph_on;
 pub use crate::once::{AnswerError, answer, respond};
 pub use crate::operating::{Manner, dump_on, publish_on, raise_on, status_on};
-pub use crate::printing::print;
-pub use crate::profile::{open_service, read_named, read_service, service_in};
 pub use crate::reporting::report_on;
 pub use crate::reports::{certify, check_parallel, summary, verify};
 pub use crate::reviewing::review_on;

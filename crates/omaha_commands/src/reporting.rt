@@ -7,14 +7,13 @@ ghost use Rattle.omaha_arguments.specs.declared.command.Question.TheVariants.{Ve
 ghost use Rattle.streams.specs.Streams.{Known};
 
 use crate::applying::apply;
-use crate::printing::print;
-use crate::profile::{MAX_PROFILE, open_profile};
 use crate::reports::{certify, summary, verify};
 use crate::script_file::read_script_file;
 use catalogue::Batch;
 use editions::Edition;
 use failures::Failure;
 use omaha_arguments::{Question, Report};
+use profiles::{MAX_PROFILE, open_profile, print};
 use review_reports::write_warnings;
 use reviews::review_catalogue;
 use service_desks::Service;

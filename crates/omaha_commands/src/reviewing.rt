@@ -10,12 +10,12 @@ ghost use Rattle.streams.specs.Streams.{Known};
 use crate::fetching::review_server;
 use crate::keeping::kept_apps;
 use crate::operating::print_body;
-use crate::profile::open_profile;
 use crate::script_file::read_script_of;
 use catalogue::{Batch, Catalogue};
 use editions::{Edition, NextError};
 use failures::Failure;
 use omaha_arguments::{Review, Source};
+use profiles::open_profile;
 use review_reports::{
     Change, Clients, changes, cut_off_newcomers, newly_stuck_total, stuck_total,
     write_change_objects, write_changes, write_review, write_review_objects,

@@ -5,10 +5,10 @@ ghost use Rattle.omaha_commands.specs.Scripting.{FindsScript, IsBase, IsScript, 
 ghost use Rattle.streams.specs.Streams.{Known};
 
 use crate::asking::{SECONDS, edition_at};
-use crate::printing::print;
 use failures::Failure;
 use omaha_arguments::{Base, Script};
 use profile_toml::write_script;
+use profiles::print;
 use std::alloc::Global;
 use streams::WriteWhole;
 use update_client::Connector;

@@ -6,9 +6,9 @@ ghost use Rattle.update_client.specs.Lines.{done_line};
 ghost use Rattle.omaha_commands.specs.Walking.{WalksOn, client_of};
 ghost use Rattle.streams.specs.Streams.{Known};
 
-use crate::printing::print;
 use failures::Failure;
 use omaha_arguments::Walk;
+use profiles::print;
 use std::alloc::{AllocError, Global};
 use streams::WriteWhole;
 use update_client::{Client, Connector, DoneLine, Walk as Walked};

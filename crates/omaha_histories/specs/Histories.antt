@@ -19,9 +19,9 @@ use Rattle.omaha_histories.specs.declared.restarts.fault.RestoreError.{RestoreEr
 use Rattle.omaha_histories.specs.declared.restarts.fault.RestoreError.TheVariants as restore
 use Rattle.service_desks.specs.declared.services.service.Service.{Service}
 use Rattle.streams.specs.Reading.{IsWhole}
-use Rattle.omaha_commands.specs.Profiles.{Files, IsServed, max_profile}
-use Rattle.omaha_commands.specs.Reports.{Prints}
-use Rattle.omaha_commands.specs.Streams.{Streams}
+use Rattle.profiles.specs.Profiles.{Files, IsServed, max_profile}
+use Rattle.profiles.specs.Printing.{Prints}
+use Rattle.profiles.specs.Streams.{Streams}
 use Rattle.failures.specs.declared.failure.Failure.{Failure}
 use Rattle.failures.specs.declared.failure.Failure.TheVariants as failure
 use Rattle.failures.specs.declared.history_fault.HistoryFault.{HistoryFault}

@@ -12,7 +12,7 @@ use etcd_records::is_etcd_path;
 use failures::{Failure, HistoryFault};
 use kept_records::{AppendFault, Kind, OpenFault, ReadFault, Record, Records, Stores, Unkept};
 use omaha_arguments::Serve;
-use omaha_commands::{open_service, read_named, service_in};
+use profiles::{open_service, read_named, service_in};
 use service_desks::{KeptService, Mirrors, Service};
 use std::thread::Threads;
 use streams::{Disk, ReadFailure};

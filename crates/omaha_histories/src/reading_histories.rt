@@ -13,7 +13,7 @@ use crate::restarts::{count_editions, export, list, records_until};
 use failures::{Failure, HistoryFault};
 use kept_records::{OpenFault, Record, Records, Stores};
 use omaha_arguments::{HistoryAction, HistoryAsked};
-use omaha_commands::print;
+use profiles::print;
 use std::alloc::Global;
 use std::thread::Threads;
 use streams::{Disk, WriteWhole};

@@ -1,13 +1,13 @@
 // The command `once`: a reply to the one request that a reader holds.
 
-ghost use Rattle.omaha_commands.specs.Streams.{Streams};
+ghost use Rattle.profiles.specs.Streams.{Streams};
 ghost use Rattle.omaha_commands.specs.Once.{Replies, Responds};
 
 use crate::once::answering::answer;
 use crate::once::error::AnswerError;
-use crate::profile::open_service;
 use failures::Failure;
 use omaha_arguments::Once;
+use profiles::open_service;
 use service_desks::Service;
 use std::sync::Wait;
 use std::thread::Threads;

@@ -1,5 +1,5 @@
 use Rattle.std.proofs.Common.{map, string_bytes}
-use Rattle.omaha_commands.specs.Streams.{Streams}
+use Rattle.profiles.specs.Streams.{Streams}
 use Rattle.omaha_cli.specs.Worlds.{World}
 use Rattle.omaha_cli.proofs.EndingLemmas.{Ends-with_task, Ends-without_command, EndsTask-no_mistake}
 use Rattle.omaha_cli.proofs.running.carry_out.Goals as goal

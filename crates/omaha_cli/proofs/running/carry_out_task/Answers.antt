@@ -1,5 +1,5 @@
 use Rattle.std.proofs.Common.{Some, refl, subst, sym}
-use Rattle.omaha_commands.specs.Streams.{Streams}
+use Rattle.profiles.specs.Streams.{Streams}
 use Rattle.omaha_cli.specs.Running.{EndsTask, IsLoggedBy}
 use Rattle.omaha_cli.specs.Worlds.{World}
 use Rattle.omaha_cli.specs.declared.running.Ending.{Ending}

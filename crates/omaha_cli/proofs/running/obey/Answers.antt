@@ -1,7 +1,7 @@
 use Rattle.std.proofs.Common.{subst, sym}
 use Rattle.omaha_arguments.specs.declared.command.Command.{Command}
 use Rattle.omaha_cli.specs.Doing.{DoesBy}
-use Rattle.omaha_commands.specs.Streams.{Streams}
+use Rattle.profiles.specs.Streams.{Streams}
 use Rattle.omaha_cli.specs.Worlds.{World}
 use Rattle.omaha_cli.proofs.running.obey.Goals as goal
 

@@ -2,8 +2,8 @@ use Rattle.std.proofs.Common.{◌∙◌, ℕ, List, Option, Ok, ap, subst}
 use Rattle.streams.specs.Streams.{Known}
 use Rattle.failures.specs.Explanations.{explanation_of}
 use Rattle.omaha_commands.specs.Explaining.{SaysOf}
-use Rattle.omaha_commands.specs.Reports.{Prints}
-use Rattle.omaha_commands.specs.Streams.{Streams}
+use Rattle.profiles.specs.Printing.{Prints}
+use Rattle.profiles.specs.Streams.{Streams}
 use Rattle.omaha_commands.proofs.explaining.explain_one.Goals as goal
 
 pub returns-in-Some : goal.returns-in-Some

@@ -1,7 +1,7 @@
 use Rattle.std.proofs.Common.{◌∙◌, ℕ, List, Ok, inl, inr, refl, subst}
 use Rattle.streams.specs.Streams.{Known}
-use Rattle.omaha_commands.specs.Reports.{Prints}
-use Rattle.omaha_commands.specs.Streams.{Streams}
+use Rattle.profiles.specs.Printing.{Prints}
+use Rattle.profiles.specs.Streams.{Streams}
 use Rattle.omaha_commands.proofs.judging.print_valid.Goals as goal
 
 pub returns-in-Ok : goal.returns-in-Ok

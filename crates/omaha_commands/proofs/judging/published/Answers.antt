@@ -1,5 +1,5 @@
 use Rattle.std.proofs.Common.{ℕ, List, inr, subst}
-use Rattle.omaha_commands.specs.Profiles.{IsMade, service_of_bytes}
+use Rattle.profiles.specs.Profiles.{IsMade, service_of_bytes}
 use Rattle.omaha_commands.proofs.judging.published.Goals as goal
 
 pub returns-in-Ok : goal.returns-in-Ok

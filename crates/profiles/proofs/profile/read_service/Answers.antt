@@ -1,4 +1,4 @@
-use Rattle.omaha_commands.proofs.profile.read_service.Goals as goal
+use Rattle.profiles.proofs.profile.read_service.Goals as goal
 
 pub make_service-requires-clause-mirrors : goal.make_service-requires-clause-mirrors
 make_service-requires-clause-mirrors g c =

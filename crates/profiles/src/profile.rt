@@ -1,7 +1,7 @@
 // The service of a profile's file.
 
 ghost use Rattle.std.specs.Prelude.{IfErr, IfOk, Some};
-ghost use Rattle.omaha_commands.specs.Profiles.{IsMade, IsServed, IsUnread, max_profile, service_of_bytes};
+ghost use Rattle.profiles.specs.Profiles.{IsMade, IsServed, IsUnread, max_profile, service_of_bytes};
 ghost use Rattle.streams.specs.Reading.{IsWhole};
 
 use failures::Failure;
@@ -13,7 +13,7 @@ use streams::{Disk, ReadFailure};
 use values::Text;
 
 /// How many bytes a profile may have.
-pub(crate) const MAX_PROFILE: u32 = 268435456;
+pub const MAX_PROFILE: u32 = 268435456;
 
 // rule: Service of a profile
 /// Makes the service of a profile.
@@ -66,7 +66,7 @@ pub fn service_in<R: Disk + AllocGlobal + Threads + Sync>(
 }
 
 /// Reads a profile's file, and makes what requests are replied to from, by so many threads.
-pub(crate) fn open_profile<R: Disk + AllocGlobal + Threads + Sync>(
+pub fn open_profile<R: Disk + AllocGlobal + Threads + Sync>(
     rt: &R,
     path: &Text,
     workers: usize,

@@ -1,7 +1,7 @@
 // What a command prints.
 
 ghost use Rattle.std.specs.Prelude.{Ok};
-ghost use Rattle.omaha_commands.specs.Reports.{Prints};
+ghost use Rattle.profiles.specs.Printing.{Prints};
 ghost use Rattle.streams.specs.Streams.{Known};
 
 use failures::Failure;
