@@ -1,4 +1,5 @@
-use Rattle.std.proofs.Common.{rules, inl, inr, subst, ap, Err, take}
+use Rattle.std.proofs.Common.{rules, inl, inr, subst, ap, Err, take, arith}
+use Rattle.std.proofs.lemmas.Grind.{common_steps}
 use Rattle.httparse.specs.Grammar.{HasNoSection}
 use Rattle.update_client.proofs.FrontLemmas.{exceeds_more, full_front, never_section}
 use Rattle.update_client.proofs.chunked.piece.find_trailer.Goals as goal
@@ -22,3 +23,6 @@ returns-in-Err-TooManyHeaders c = (
 
 pub returns-in-Err : goal.returns-in-Err
 returns-in-Err c = (λ same. cc, never_section c.min.result c.args.bytes.now (c.in-Err.ensures.invalid (search rules)))
+
+pub returns-in-Ok-Partial : goal.returns-in-Ok-Partial
+returns-in-Ok-Partial c = grind (arith, common_steps)
