@@ -147,59 +147,33 @@ enum Name {
 fn other_name_of(name: &str) -> Name
     ensures { result ≡ other_name_of name.now }
 {
-    if name == "once" {
-        return Name::Once;
+    match name {
+        "once" => Name::Once,
+        "check" => Name::Check,
+        "review" => Name::Review,
+        "graph" => Name::Graph,
+        "walk" => Name::Walk,
+        "describe" => Name::Describe,
+        "explain" => Name::Explain,
+        _ => Name::Other,
     }
-    if name == "check" {
-        return Name::Check;
-    }
-    if name == "review" {
-        return Name::Review;
-    }
-    if name == "graph" {
-        return Name::Graph;
-    }
-    if name == "walk" {
-        return Name::Walk;
-    }
-    if name == "describe" {
-        return Name::Describe;
-    }
-    if name == "explain" {
-        return Name::Explain;
-    }
-    Name::Other
 }
 
 #[tactic(auto, unfolding(crate::specs::Commands::name_of))]
 fn name_of(name: &str) -> Name
     ensures { result ≡ name_of name.now }
 {
-    if name == "serve" {
-        return Name::Serve;
+    match name {
+        "serve" => Name::Serve,
+        "publish" => Name::Publish,
+        "script" => Name::Script,
+        "raise" => Name::Raise,
+        "dump" => Name::Dump,
+        "status" => Name::Status,
+        "stop" => Name::Stop,
+        "history" => Name::History,
+        _ => other_name_of(name),
     }
-    if name == "publish" {
-        return Name::Publish;
-    }
-    if name == "script" {
-        return Name::Script;
-    }
-    if name == "raise" {
-        return Name::Raise;
-    }
-    if name == "dump" {
-        return Name::Dump;
-    }
-    if name == "status" {
-        return Name::Status;
-    }
-    if name == "stop" {
-        return Name::Stop;
-    }
-    if name == "history" {
-        return Name::History;
-    }
-    other_name_of(name)
 }
 
 // Reads the arguments of a command.

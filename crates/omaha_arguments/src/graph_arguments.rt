@@ -7,11 +7,10 @@ ghost use Rattle.omaha_arguments.specs.Options.{IsMade};
 ghost use Rattle.omaha_arguments.specs.WalkArguments.{IsAskable};
 
 use crate::command::{Command, Graph};
-use crate::options::{Entry, Making, flag_in, optional_string, string_in, titled, with_entries};
+use crate::options::{Entry, Making, command_of, copy_strings, flag_in, optional_strings};
 use crate::rejections::out_of_memory;
 use clap::{ArgMatches, Error};
 use std::alloc::{AllocError, Global};
-use values::Text;
 
 const GRAPH: &str = "Draws an app's releases, and the packages that lead its clients on.";
 
@@ -57,18 +56,15 @@ const ENTRIES: [Entry<'static>; 5] = [
 pub(crate) fn graph_command<'a>(alloc: Global) -> Making<'a>
     ensures { IsMade graph_app result.made }
 {
-    let command = titled(alloc, "graph", GRAPH, AFTER_GRAPH);
-    with_entries(alloc, command, &ENTRIES)
+    command_of(alloc, "graph", GRAPH, AFTER_GRAPH, &ENTRIES)
 }
 
 // What is drawn, and how.
 fn graph_of(alloc: Global, matches: &ArgMatches<'_>) -> Result<Graph, AllocError>
     ensures { IfOk result (λ graph. graph ≡ graph_in (rows_of (found_of matches.now))) }
 {
-    let profile = Text::copy_of(alloc, string_in(matches, "F"))?;
-    let app = Text::copy_of(alloc, string_in(matches, "APP"))?;
-    let cohort = optional_string(alloc, matches, "cohort")?;
-    let from = optional_string(alloc, matches, "from")?;
+    let (profile, app) = copy_strings(alloc, matches, "F", "APP")?;
+    let (cohort, from) = optional_strings(alloc, matches, "cohort", "from")?;
     let dot = flag_in(matches, "dot");
     Ok(Graph {
         profile,

@@ -8,7 +8,7 @@ ghost use Rattle.omaha_arguments.specs.WalkArguments.{IsAskable};
 
 use crate::command::{Command, HistoryAction, HistoryAsked};
 use crate::history_paths::{history_fault, invalid_history};
-use crate::options::{Entry, Making, strings_in, titled, with_entries};
+use crate::options::{Entry, Making, command_of, strings_in};
 use crate::rejections::{out_of_memory, rejection};
 use crate::serve_arguments::limit_in;
 use clap::error::ErrorKind;
@@ -41,15 +41,15 @@ Exit status: 0 if the command did that, 1 if it failed, 2 if the arguments are i
 Example: the way back to edition 4, as a profile for a new history.
   omaha history export --edition 4 history.db > profile.toml";
 
+const ENTRIES: [Entry<'static>; 2] = [
+    Entry::PlainOption("edition", "N", EDITION),
+    Entry::WantedList("F", WORDS),
+];
+
 pub(crate) fn history_command<'a>(alloc: Global) -> Making<'a>
     ensures { IsMade history_app result.made }
 {
-    let command = titled(alloc, "history", HISTORY, AFTER_HISTORY);
-    let entries = [
-        Entry::PlainOption("edition", "N", EDITION),
-        Entry::WantedList("F", WORDS),
-    ];
-    with_entries(alloc, command, &entries)
+    command_of(alloc, "history", HISTORY, AFTER_HISTORY, &ENTRIES)
 }
 
 // What is asked for, unless an edition is named.

@@ -7,7 +7,7 @@ ghost use Rattle.omaha_arguments.specs.Options.{IsMade};
 ghost use Rattle.omaha_arguments.specs.WalkArguments.{IsAskable};
 
 use crate::command::{Command, Once};
-use crate::options::{Entry, Making, number_in, optional_string, titled, with_entries};
+use crate::options::{Entry, Making, command_of, number_in, optional_string};
 use crate::rejections::{out_of_memory, rejection};
 use clap::error::ErrorKind;
 use clap::{ArgMatches, Error};
@@ -45,15 +45,15 @@ Example: a client without an installed version asks for the built-in app `mini`.
   echo '{\"request\":{\"app\":[{\"appid\":\"mini\",\"updatecheck\":{}}],\"protocol\":\"3.1\"}}' |
     omaha once --moment 1767229261";
 
+const ENTRIES: [Entry<'static>; 2] = [
+    Entry::PlainOption("profile", "F", PROFILE),
+    Entry::PlainOption("moment", "N", TIMESTAMP),
+];
+
 pub(crate) fn once_command<'a>(alloc: Global) -> Making<'a>
     ensures { IsMade once_app result.made }
 {
-    let command = titled(alloc, "once", ONCE, AFTER_ONCE);
-    let entries = [
-        Entry::PlainOption("profile", "F", PROFILE),
-        Entry::PlainOption("moment", "N", TIMESTAMP),
-    ];
-    with_entries(alloc, command, &entries)
+    command_of(alloc, "once", ONCE, AFTER_ONCE, &ENTRIES)
 }
 
 // What is said of a `--moment` that is no such number.

@@ -8,13 +8,12 @@ ghost use Rattle.omaha_arguments.specs.WalkArguments.{IsAskable};
 
 use crate::command::{Command, Publication, Raise, ServerAsked};
 use crate::options::{
-    Entry, Making, flag_in, optional_string, seconds_in, string_in, titled, with_entries,
+    Entry, Making, command_of, copy_string, copy_strings, flag_in, optional_string, seconds_in,
 };
 use crate::rejections::{out_of_memory, rejection};
 use clap::error::ErrorKind;
 use clap::{ArgMatches, Error};
 use std::alloc::{AllocError, Global};
-use values::Text;
 
 /// The help of `--to`.
 pub(crate) const TO: &str = "The operator's address of the server: 127.0.0.1:8081, unix:PATH";
@@ -169,8 +168,7 @@ const PUBLISH_ENTRIES: [Entry<'static>; 5] = [
 pub(crate) fn publish_command<'a>(alloc: Global) -> Making<'a>
     ensures { IsMade publish_app result.made }
 {
-    let command = titled(alloc, "publish", PUBLISH, AFTER_PUBLISH);
-    with_entries(alloc, command, &PUBLISH_ENTRIES)
+    command_of(alloc, "publish", PUBLISH, AFTER_PUBLISH, &PUBLISH_ENTRIES)
 }
 
 const RAISE_ENTRIES: [Entry<'static>; 4] = [
@@ -183,30 +181,24 @@ const RAISE_ENTRIES: [Entry<'static>; 4] = [
 pub(crate) fn raise_command<'a>(alloc: Global) -> Making<'a>
     ensures { IsMade raise_app result.made }
 {
-    let command = titled(alloc, "raise", RAISE, AFTER_RAISE);
-    with_entries(alloc, command, &RAISE_ENTRIES)
+    command_of(alloc, "raise", RAISE, AFTER_RAISE, &RAISE_ENTRIES)
 }
+
+const SERVER_ENTRIES: [Entry<'static>; 2] = [
+    Entry::WantedOption("to", "ADDR", TO),
+    Entry::PlainOption("timeout", "SECONDS", TIMEOUT),
+];
 
 pub(crate) fn dump_command<'a>(alloc: Global) -> Making<'a>
     ensures { IsMade dump_app result.made }
 {
-    let command = titled(alloc, "dump", DUMP, AFTER_DUMP);
-    let entries = [
-        Entry::WantedOption("to", "ADDR", TO),
-        Entry::PlainOption("timeout", "SECONDS", TIMEOUT),
-    ];
-    with_entries(alloc, command, &entries)
+    command_of(alloc, "dump", DUMP, AFTER_DUMP, &SERVER_ENTRIES)
 }
 
 pub(crate) fn status_command<'a>(alloc: Global) -> Making<'a>
     ensures { IsMade status_app result.made }
 {
-    let command = titled(alloc, "status", STATUS, AFTER_STATUS);
-    let entries = [
-        Entry::WantedOption("to", "ADDR", TO),
-        Entry::PlainOption("timeout", "SECONDS", TIMEOUT),
-    ];
-    with_entries(alloc, command, &entries)
+    command_of(alloc, "status", STATUS, AFTER_STATUS, &SERVER_ENTRIES)
 }
 
 // rule: Time limit of an exchange
@@ -238,8 +230,7 @@ fn publication_with(
 ) -> Result<Publication, AllocError>
     ensures { IfOk result (λ publication. publication ≡ publication_with timeout (rows_of (found_of matches.now))) }
 {
-    let to = Text::copy_of(alloc, string_in(matches, "to"))?;
-    let script = Text::copy_of(alloc, string_in(matches, "F"))?;
+    let (to, script) = copy_strings(alloc, matches, "to", "F")?;
     let packages = optional_string(alloc, matches, "packages")?;
     let check = flag_in(matches, "check");
     Ok(Publication {
@@ -269,9 +260,8 @@ pub(crate) fn read_publication(alloc: Global, matches: &ArgMatches<'_>) -> Resul
 fn raise_with(alloc: Global, timeout: u64, matches: &ArgMatches<'_>) -> Result<Raise, AllocError>
     ensures { IfOk result (λ raise. raise ≡ raise_with timeout (rows_of (found_of matches.now))) }
 {
-    let to = Text::copy_of(alloc, string_in(matches, "to"))?;
-    let name = Text::copy_of(alloc, string_in(matches, "NAME"))?;
-    let budget = Text::copy_of(alloc, string_in(matches, "BUDGET"))?;
+    let (name, budget) = copy_strings(alloc, matches, "NAME", "BUDGET")?;
+    let to = copy_string(alloc, matches, "to")?;
     Ok(Raise {
         to,
         name,
@@ -302,7 +292,7 @@ fn asked_with(
 ) -> Result<ServerAsked, AllocError>
     ensures { IfOk result (λ asked. asked ≡ asked_with timeout (rows_of (found_of matches.now))) }
 {
-    let to = Text::copy_of(alloc, string_in(matches, "to"))?;
+    let to = copy_string(alloc, matches, "to")?;
     Ok(ServerAsked { to, timeout })
 }
 

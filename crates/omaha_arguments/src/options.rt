@@ -161,6 +161,19 @@ pub(crate) fn with_entries<'a>(
     made
 }
 
+/// A command with a name, its help and its arguments.
+pub(crate) fn command_of<'a>(
+    alloc: Global,
+    name: &'a str,
+    about: &'a str,
+    after_help: &'a str,
+    entries: &[Entry<'a>],
+) -> Making<'a>
+    ensures { IsMade (with_entries (new_app name.entry.now) entries.now) result.made }
+{
+    with_entries(alloc, titled(alloc, name, about, after_help), entries)
+}
+
 // Whether a string begins with a `+`.
 fn has_plus(text: &str) -> bool
     ensures { result ≡ has_plus text.now }
@@ -251,6 +264,47 @@ pub(crate) fn optional_string(
         None => Ok(None),
         Some(text) => Ok(Some(Text::copy_of(alloc, text)?)),
     }
+}
+
+/// Copies the value of an argument, or nothing.
+pub(crate) fn copy_string(
+    alloc: Global,
+    matches: &ArgMatches<'_>,
+    id: &str,
+) -> Result<Text, AllocError>
+    ensures { IfOk result (λ text. text ≡ string_in id.now (rows_of (found_of matches.now))) }
+{
+    Text::copy_of(alloc, string_in(matches, id))
+}
+
+/// Copies the values of two arguments, or nothing for each that isn't given.
+pub(crate) fn copy_strings(
+    alloc: Global,
+    matches: &ArgMatches<'_>,
+    first: &str,
+    second: &str,
+) -> Result<(Text, Text), AllocError>
+    ensures { IfOk result (λ both. (both.0 ≡ string_in first.now (rows_of (found_of matches.now)))
+        × (both.1 ≡ string_in second.now (rows_of (found_of matches.now)))) }
+{
+    let first = copy_string(alloc, matches, first)?;
+    let second = copy_string(alloc, matches, second)?;
+    Ok((first, second))
+}
+
+/// The values of two options, each if it is given.
+pub(crate) fn optional_strings(
+    alloc: Global,
+    matches: &ArgMatches<'_>,
+    first: &str,
+    second: &str,
+) -> Result<(Option<Text>, Option<Text>), AllocError>
+    ensures { IfOk result (λ both. (both.0 ≡ first_of first.now (rows_of (found_of matches.now)))
+        × (both.1 ≡ first_of second.now (rows_of (found_of matches.now)))) }
+{
+    let first = optional_string(alloc, matches, first)?;
+    let second = optional_string(alloc, matches, second)?;
+    Ok((first, second))
 }
 
 /// Whether a flag is given.

@@ -8,8 +8,8 @@ ghost use Rattle.omaha_arguments.specs.WalkArguments.{IsAskable};
 
 use crate::command::{Command, Comparison, Question, Report};
 use crate::options::{
-    Entry, Making, flag_in, optional_string, string_in, strings_in, titled, with_entries,
-    workers_in,
+    Entry, Making, command_of, copy_string, copy_strings, flag_in, optional_string, string_in,
+    strings_in, workers_in,
 };
 use crate::rejections::{out_of_memory, rejection};
 use crate::serve_arguments::is_given;
@@ -149,16 +149,21 @@ const CHECK_ENTRIES: [Entry<'static>; 5] = [
 pub(crate) fn check_command<'a>(alloc: Global) -> Making<'a>
     ensures { IsMade check_app result.made }
 {
-    let command = titled(alloc, "check", CHECK, AFTER_CHECK);
-    with_entries(alloc, command, &CHECK_ENTRIES)
+    command_of(alloc, "check", CHECK, AFTER_CHECK, &CHECK_ENTRIES)
 }
+
+const DESCRIBE_ENTRIES: [Entry<'static>; 1] = [Entry::WantedList("FILE", "A package")];
 
 pub(crate) fn describe_command<'a>(alloc: Global) -> Making<'a>
     ensures { IsMade describe_app result.made }
 {
-    let command = titled(alloc, "describe", DESCRIBE, AFTER_DESCRIBE);
-    let entries = [Entry::WantedList("FILE", "A package")];
-    with_entries(alloc, command, &entries)
+    command_of(
+        alloc,
+        "describe",
+        DESCRIBE,
+        AFTER_DESCRIBE,
+        &DESCRIBE_ENTRIES,
+    )
 }
 
 const CERTIFY_ENTRIES: [Entry<'static>; 5] = [
@@ -172,27 +177,29 @@ const CERTIFY_ENTRIES: [Entry<'static>; 5] = [
 pub(crate) fn certify_command<'a>(alloc: Global) -> Making<'a>
     ensures { IsMade certify_app result.made }
 {
-    let command = titled(alloc, "certify", CERTIFY, AFTER_CERTIFY);
-    with_entries(alloc, command, &CERTIFY_ENTRIES)
+    command_of(alloc, "certify", CERTIFY, AFTER_CERTIFY, &CERTIFY_ENTRIES)
 }
+
+const VERIFY_ENTRIES: [Entry<'static>; 2] = [
+    Entry::Wanted("F", "The profile"),
+    Entry::Wanted("CERT", "The certificate"),
+];
 
 pub(crate) fn verify_command<'a>(alloc: Global) -> Making<'a>
     ensures { IsMade verify_app result.made }
 {
-    let command = titled(alloc, "verify", VERIFY, AFTER_VERIFY);
-    let entries = [
-        Entry::Wanted("F", "The profile"),
-        Entry::Wanted("CERT", "The certificate"),
-    ];
-    with_entries(alloc, command, &entries)
+    command_of(alloc, "verify", VERIFY, AFTER_VERIFY, &VERIFY_ENTRIES)
 }
+
+const EXPLAIN_ENTRIES: [Entry<'static>; 1] = [Entry::Optional(
+    "CODE",
+    "The code, or the first word of the line",
+)];
 
 pub(crate) fn explain_command<'a>(alloc: Global) -> Making<'a>
     ensures { IsMade explain_app result.made }
 {
-    let command = titled(alloc, "explain", EXPLAIN, AFTER_EXPLAIN);
-    let entries = [Entry::Optional("CODE", "The code, or the first word of the line")];
-    with_entries(alloc, command, &entries)
+    command_of(alloc, "explain", EXPLAIN, AFTER_EXPLAIN, &EXPLAIN_ENTRIES)
 }
 
 /// Reads the arguments of `describe`.
@@ -223,12 +230,10 @@ pub(crate) fn read_code(alloc: Global, matches: &ArgMatches<'_>) -> Result<Comma
 fn lane_of(word: &str) -> Option<Lane>
     ensures { result ≡ lane_of word.now }
 {
-    if word == "target" {
-        Some(Lane::Target)
-    } else if word == "held" {
-        Some(Lane::Held)
-    } else {
-        None
+    match word {
+        "target" => Some(Lane::Target),
+        "held" => Some(Lane::Held),
+        _ => None,
     }
 }
 
@@ -236,12 +241,10 @@ fn lane_of(word: &str) -> Option<Lane>
 fn yes_or_no(word: &str) -> Option<bool>
     ensures { result ≡ yes_or_no word.now }
 {
-    if word == "yes" {
-        Some(true)
-    } else if word == "no" {
-        Some(false)
-    } else {
-        None
+    match word {
+        "yes" => Some(true),
+        "no" => Some(false),
+        _ => None,
     }
 }
 
@@ -267,9 +270,10 @@ fn names_of(
 ) -> Result<TrackNames, AllocError>
     ensures { IfOk result (λ names. names ≡ names_of lane rollback (rows_of (found_of matches.now))) }
 {
+    let (app, cohort) = copy_strings(alloc, matches, "APP", "COHORT")?;
     Ok(TrackNames {
-        app: Text::copy_of(alloc, string_in(matches, "APP"))?,
-        cohort: Text::copy_of(alloc, string_in(matches, "COHORT"))?,
+        app,
+        cohort,
         lane,
         rollback,
     })
@@ -296,7 +300,7 @@ fn read_certificate(alloc: Global, matches: &ArgMatches<'_>) -> Result<Question,
     ensures faults { FailsBy [] result }
     ensures question { IfOk result (λ question. question ≡ Question.Verify (string_in (codes "CERT") (rows_of (found_of matches.now)))) }
 {
-    match Text::copy_of(alloc, string_in(matches, "CERT")) {
+    match copy_string(alloc, matches, "CERT") {
         Ok(path) => Ok(Question::Verify(path)),
         Err(error) => Err(out_of_memory(error)),
     }
@@ -359,7 +363,7 @@ fn report_on(
     ensures command { IfOk result (λ command. command ≡ Command.Report (report_on workers question (rows_of (found_of matches.now)))) }
     ensures named { IfOk result IsAskable }
 {
-    match Text::copy_of(alloc, string_in(matches, "F")) {
+    match copy_string(alloc, matches, "F") {
         Ok(profile) => Ok(Command::Report(Report {
             profile,
             workers,
@@ -449,7 +453,7 @@ pub(crate) fn read_comparison(
     match optional_string(alloc, matches, "packages")? {
         None => Ok(None),
         Some(packages) => Ok(Some(Comparison {
-            profile: Text::copy_of(alloc, string_in(matches, "F"))?,
+            profile: copy_string(alloc, matches, "F")?,
             packages,
             workers,
         })),

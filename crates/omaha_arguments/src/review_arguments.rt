@@ -7,13 +7,12 @@ ghost use Rattle.omaha_arguments.specs.ReviewArguments.{faults_of_review, is_one
 ghost use Rattle.omaha_arguments.specs.WalkArguments.{IsAskable};
 
 use crate::command::{Command, Review, Source};
-use crate::options::{Entry, Making, flag_in, optional_string, string_in, titled, with_entries};
+use crate::options::{Entry, Making, command_of, copy_string, flag_in, optional_string};
 use crate::rejections::{out_of_memory, rejection};
 use crate::serve_arguments::is_given;
 use clap::error::ErrorKind;
 use clap::{ArgMatches, Error};
 use std::alloc::{AllocError, Global};
-use values::Text;
 
 const REVIEW: &str =
     "Prints which clients of a profile are stuck and why, or what a script changes.";
@@ -92,8 +91,7 @@ const ENTRIES: [Entry<'static>; 6] = [
 pub(crate) fn review_command<'a>(alloc: Global) -> Making<'a>
     ensures { IsMade review_app result.made }
 {
-    let command = titled(alloc, "review", REVIEW, AFTER_REVIEW);
-    with_entries(alloc, command, &ENTRIES)
+    command_of(alloc, "review", REVIEW, AFTER_REVIEW, &ENTRIES)
 }
 
 // Whether a profile is named, or a server, and not both.
@@ -114,7 +112,7 @@ fn source_in(alloc: Global, matches: &ArgMatches<'_>) -> Result<Source, AllocErr
 {
     match optional_string(alloc, matches, "to")? {
         Some(to) => Ok(Source::Server(to)),
-        None => Ok(Source::Profile(Text::copy_of(alloc, string_in(matches, "F"))?)),
+        None => copy_string(alloc, matches, "F").map(Source::Profile),
     }
 }
 

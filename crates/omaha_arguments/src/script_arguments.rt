@@ -7,7 +7,7 @@ ghost use Rattle.omaha_arguments.specs.ScriptArguments.{base_in, faults_of_scrip
 ghost use Rattle.omaha_arguments.specs.WalkArguments.{IsAskable};
 
 use crate::command::{Base, Command, Script};
-use crate::options::{Entry, Making, number_in, optional_string, strings_in, titled, with_entries};
+use crate::options::{Entry, Making, command_of, number_in, optional_string, strings_in};
 use crate::rejections::{out_of_memory, rejection};
 use crate::serve_arguments::is_given;
 use clap::error::ErrorKind;
@@ -61,16 +61,16 @@ Example: a tenth of the clients of a cohort get its target.
     omaha publish --to 127.0.0.1:8081 -
   omaha script --to 127.0.0.1:8081 set_share app=editor cohort=stable share=100 > widen.toml";
 
+const ENTRIES: [Entry<'static>; 3] = [
+    Entry::PlainOption("base", "N", BASE),
+    Entry::PlainOption("to", "ADDR", TO),
+    Entry::WantedList("WORD", WORDS),
+];
+
 pub(crate) fn script_command<'a>(alloc: Global) -> Making<'a>
     ensures { IsMade script_app result.made }
 {
-    let command = titled(alloc, "script", SCRIPT, AFTER_SCRIPT);
-    let entries = [
-        Entry::PlainOption("base", "N", BASE),
-        Entry::PlainOption("to", "ADDR", TO),
-        Entry::WantedList("WORD", WORDS),
-    ];
-    with_entries(alloc, command, &entries)
+    command_of(alloc, "script", SCRIPT, AFTER_SCRIPT, &ENTRIES)
 }
 
 // The number of `--base`.

@@ -10,8 +10,8 @@ use crate::addresses::{has_known_port, is_local};
 use crate::command::{Command, Serve};
 use crate::history_paths::{history_fault, invalid_history};
 use crate::options::{
-    Entry, Making, flag_in, number_in, number_of, number_within, optional_string, seconds_in,
-    string_in, titled, with_entries, workers_in,
+    Entry, Making, copy_strings, flag_in, number_in, number_of, number_within, optional_string,
+    optional_strings, seconds_in, titled, with_entries, workers_in,
 };
 use crate::rejections::{out_of_memory, rejection};
 use clap::error::ErrorKind;
@@ -366,10 +366,12 @@ struct Files {
 fn files_in(alloc: Global, matches: &ArgMatches<'_>) -> Result<Files, AllocError>
     ensures { IfOk result (λ files. files ≡ files_in (rows_of (found_of matches.now))) }
 {
+    let (profile, history) = optional_strings(alloc, matches, "profile", "history")?;
+    let log = optional_string(alloc, matches, "log")?;
     Ok(Files {
-        profile: optional_string(alloc, matches, "profile")?,
-        history: optional_string(alloc, matches, "history")?,
-        log: optional_string(alloc, matches, "log")?,
+        profile,
+        history,
+        log,
     })
 }
 
@@ -384,10 +386,12 @@ struct Places {
 fn places_in(alloc: Global, matches: &ArgMatches<'_>) -> Result<Places, AllocError>
     ensures { IfOk result (λ places. places ≡ places_in (rows_of (found_of matches.now))) }
 {
+    let (packages, listen) = copy_strings(alloc, matches, "packages", "listen")?;
+    let operator = optional_string(alloc, matches, "operator")?;
     Ok(Places {
-        packages: Text::copy_of(alloc, string_in(matches, "packages"))?,
-        listen: Text::copy_of(alloc, string_in(matches, "listen"))?,
-        operator: optional_string(alloc, matches, "operator")?,
+        packages,
+        listen,
+        operator,
     })
 }
 

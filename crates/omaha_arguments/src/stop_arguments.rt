@@ -8,11 +8,10 @@ ghost use Rattle.omaha_arguments.specs.WalkArguments.{IsAskable};
 
 use crate::command::{Command, Stop};
 use crate::operator_arguments::{TO, invalid_timeout};
-use crate::options::{Entry, Making, seconds_in, string_in, titled, with_entries};
+use crate::options::{Entry, Making, command_of, copy_string, seconds_in};
 use crate::rejections::out_of_memory;
 use clap::{ArgMatches, Error};
 use std::alloc::{AllocError, Global};
-use values::Text;
 
 const TIMEOUT: &str = "Seconds that the server may take to end, 1 to 86400 [default: 80]";
 
@@ -45,15 +44,15 @@ arguments are invalid.
 Example, against `omaha serve` with `--operator 127.0.0.1:8081`:
   omaha stop --to 127.0.0.1:8081 --timeout 600";
 
+const ENTRIES: [Entry<'static>; 2] = [
+    Entry::WantedOption("to", "ADDR", TO),
+    Entry::PlainOption("timeout", "SECONDS", TIMEOUT),
+];
+
 pub(crate) fn stop_command<'a>(alloc: Global) -> Making<'a>
     ensures { IsMade stop_app result.made }
 {
-    let command = titled(alloc, "stop", STOP, AFTER_STOP);
-    let entries = [
-        Entry::WantedOption("to", "ADDR", TO),
-        Entry::PlainOption("timeout", "SECONDS", TIMEOUT),
-    ];
-    with_entries(alloc, command, &entries)
+    command_of(alloc, "stop", STOP, AFTER_STOP, &ENTRIES)
 }
 
 // rule: Time limit of a stop
@@ -67,7 +66,7 @@ fn stop_timeout_in(matches: &ArgMatches<'_>) -> Option<u64>
 fn stop_with(alloc: Global, timeout: u64, matches: &ArgMatches<'_>) -> Result<Stop, AllocError>
     ensures { IfOk result (λ stop. stop ≡ stop_with timeout (rows_of (found_of matches.now))) }
 {
-    let to = Text::copy_of(alloc, string_in(matches, "to"))?;
+    let to = copy_string(alloc, matches, "to")?;
     Ok(Stop { to, timeout })
 }
 

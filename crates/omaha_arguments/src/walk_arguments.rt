@@ -7,7 +7,7 @@ ghost use Rattle.omaha_arguments.specs.WalkArguments.{IsAskable, asked_in, clien
 
 use crate::command::{Command, Walk};
 use crate::operator_arguments::{INVALID_TIMEOUT, timeout_in};
-use crate::options::{Entry, Making, flag_in, string_in, titled, with_entries};
+use crate::options::{Entry, Making, command_of, copy_string, copy_strings, flag_in, string_in};
 use crate::rejections::{out_of_memory, rejection};
 use clap::error::ErrorKind;
 use clap::{ArgMatches, Error};
@@ -83,8 +83,7 @@ const ENTRIES: [Entry<'static>; 9] = [
 pub(crate) fn walk_command<'a>(alloc: Global) -> Making<'a>
     ensures { IsMade walk_app result.made }
 {
-    let command = titled(alloc, "walk", WALK, AFTER_WALK);
-    with_entries(alloc, command, &ENTRIES)
+    command_of(alloc, "walk", WALK, AFTER_WALK, &ENTRIES)
 }
 
 const INVALID_APP: &str = "--app is an identifier of 1 to 256 bytes";
@@ -121,11 +120,9 @@ struct Asked {
 fn asked_in(alloc: Global, matches: &ArgMatches<'_>) -> Result<Asked, AllocError>
     ensures { IfOk result (λ asked. asked ≡ asked_in (rows_of (found_of matches.now))) }
 {
-    Ok(Asked {
-        to: Text::copy_of(alloc, string_in(matches, "to"))?,
-        app: Text::copy_of(alloc, string_in(matches, "app"))?,
-        session: Text::copy_of(alloc, string_in(matches, "session"))?,
-    })
+    let (to, app) = copy_strings(alloc, matches, "to", "app")?;
+    let session = copy_string(alloc, matches, "session")?;
+    Ok(Asked { to, app, session })
 }
 
 // What the client has, and may have.
@@ -140,11 +137,13 @@ struct Client {
 fn client_in(alloc: Global, matches: &ArgMatches<'_>) -> Result<Client, AllocError>
     ensures { IfOk result (λ client. client ≡ client_in (rows_of (found_of matches.now))) }
 {
+    let (version, fp) = copy_strings(alloc, matches, "version", "fp")?;
+    let (cohort, prefix) = copy_strings(alloc, matches, "cohort", "prefix")?;
     Ok(Client {
-        version: Text::copy_of(alloc, string_in(matches, "version"))?,
-        fp: Text::copy_of(alloc, string_in(matches, "fp"))?,
-        cohort: Text::copy_of(alloc, string_in(matches, "cohort"))?,
-        prefix: Text::copy_of(alloc, string_in(matches, "prefix"))?,
+        version,
+        fp,
+        cohort,
+        prefix,
     })
 }
 
