@@ -52,7 +52,9 @@ fn plain_command<'a>(alloc: Global) -> Making<'a>
         .version(VERSION)
         .about(OMAHA)
         .after_help(AFTER_OMAHA);
-    Making::of(command.bin_name("omaha"))
+    Making {
+        made: command.bin_name("omaha"),
+    }
 }
 
 // The program with one more command, which is made.
@@ -61,8 +63,10 @@ fn with_made<'a>(program: Making<'a>, command: clap::Command<'a>) -> Making<'a>
         IsMade (with_subcommand app own.top) result.made }
 {
     match program.into_made() {
-        Ok(program) => Making::of(program.subcommand(command)),
-        Err(error) => Making::of(Err(error)),
+        Ok(program) => Making {
+            made: program.subcommand(command),
+        },
+        Err(error) => Making { made: Err(error) },
     }
 }
 
@@ -73,7 +77,7 @@ fn with_command<'a>(alloc: Global, program: Making<'a>, command: Making<'a>) -> 
 {
     match with_verbose(alloc, command).into_made() {
         Ok(command) => with_made(program, command),
-        Err(error) => Making::of(Err(error)),
+        Err(error) => Making { made: Err(error) },
     }
 }
 

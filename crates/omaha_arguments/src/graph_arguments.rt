@@ -7,7 +7,7 @@ ghost use Rattle.omaha_arguments.specs.Options.{IsMade};
 ghost use Rattle.omaha_arguments.specs.WalkArguments.{IsAskable};
 
 use crate::command::{Command, Graph};
-use crate::options::{Entry, Making, command_of, copy_strings, flag_in, optional_strings};
+use crate::options::{Entry, Making, command_of, copy_strings, flag_in, optional_string};
 use crate::rejections::out_of_memory;
 use clap::{ArgMatches, Error};
 use std::alloc::{AllocError, Global};
@@ -64,7 +64,8 @@ fn graph_of(alloc: Global, matches: &ArgMatches<'_>) -> Result<Graph, AllocError
     ensures { IfOk result (λ graph. graph ≡ graph_in (rows_of (found_of matches.now))) }
 {
     let (profile, app) = copy_strings(alloc, matches, "F", "APP")?;
-    let (cohort, from) = optional_strings(alloc, matches, "cohort", "from")?;
+    let cohort = optional_string(alloc, matches, "cohort")?;
+    let from = optional_string(alloc, matches, "from")?;
     let dot = flag_in(matches, "dot");
     Ok(Graph {
         profile,

@@ -66,13 +66,11 @@ fn without_edition(edition: Option<u64>, action: HistoryAction) -> Option<Histor
 fn action_named(word: &str, edition: Option<u64>) -> Option<HistoryAction>
     ensures { result ≡ action_named word.now edition }
 {
-    if word == "export" {
-        return Some(HistoryAction::Export(edition));
+    match word {
+        "export" => Some(HistoryAction::Export(edition)),
+        "compact" => without_edition(edition, HistoryAction::Compact),
+        _ => None,
     }
-    if word == "compact" {
-        return without_edition(edition, HistoryAction::Compact);
-    }
-    None
 }
 
 // What one or two words ask for, of which the last one is the path.

@@ -24,13 +24,6 @@ impl Drop for Making<'_> {
 }
 
 impl<'a> Making<'a> {
-    /// Takes a command, or that memory ran out.
-    pub(crate) fn of(made: Result<clap::Command<'a>, AllocError>) -> Making<'a>
-        ensures { result.made ≡ made.entry }
-    {
-        Making { made }
-    }
-
     /// Gives the command, or that memory ran out.
     pub(crate) fn into_made(self) -> Result<clap::Command<'a>, AllocError>
         ensures { result ≡ self.entry.made }
@@ -52,7 +45,7 @@ pub(crate) fn titled<'a>(
     let command = clap::Command::new(alloc, name)
         .about(about)
         .after_help(after_help);
-    Making::of(Ok(command))
+    Making { made: Ok(command) }
 }
 
 // The command with one more argument.
@@ -60,8 +53,10 @@ fn with_arg<'a>(command: Making<'a>, argument: Arg<'a>) -> Making<'a>
     ensures { (app : App) → argument.entry.global ≡ false → IsMade app command.entry.made → IsMade (with_rule app (rule_of argument.entry)) result.made }
 {
     match command.into_made() {
-        Ok(command) => Making::of(command.arg(argument)),
-        Err(error) => Making::of(Err(error)),
+        Ok(command) => Making {
+            made: command.arg(argument),
+        },
+        Err(error) => Making { made: Err(error) },
     }
 }
 
@@ -289,21 +284,6 @@ pub(crate) fn copy_strings(
 {
     let first = copy_string(alloc, matches, first)?;
     let second = copy_string(alloc, matches, second)?;
-    Ok((first, second))
-}
-
-/// The values of two options, each if it is given.
-pub(crate) fn optional_strings(
-    alloc: Global,
-    matches: &ArgMatches<'_>,
-    first: &str,
-    second: &str,
-) -> Result<(Option<Text>, Option<Text>), AllocError>
-    ensures { IfOk result (λ both. (both.0 ≡ first_of first.now (rows_of (found_of matches.now)))
-        × (both.1 ≡ first_of second.now (rows_of (found_of matches.now)))) }
-{
-    let first = optional_string(alloc, matches, first)?;
-    let second = optional_string(alloc, matches, second)?;
     Ok((first, second))
 }
 

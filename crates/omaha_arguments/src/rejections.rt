@@ -15,11 +15,17 @@ pub(crate) fn out_of_memory(error: AllocError) -> Error
     Error::from(error)
 }
 
-// The command under its full name.
-fn with_name<'a>(command: Making<'a>, name: &str) -> Making<'a> {
-    match command.into_made() {
-        Ok(command) => Making::of(command.bin_name(name)),
-        Err(error) => Making::of(Err(error)),
+// The error of a kind, with the usage of a command, or that memory ran out.
+fn usage_error(
+    command: Result<clap::Command<'_>, AllocError>,
+    kind: ErrorKind,
+    message: &str,
+) -> Result<Error, AllocError>
+    ensures { IfOk result (λ error. kind_of error ≡ kind) }
+{
+    match command {
+        Ok(mut command) => command.error(kind, message),
+        Err(error) => Err(error),
     }
 }
 
@@ -33,8 +39,8 @@ fn error_with_usage(
 ) -> Result<Error, AllocError>
     ensures { IfOk result (λ error. kind_of error ≡ kind) }
 {
-    match with_name(with_verbose(alloc, command), name).into_made() {
-        Ok(mut command) => command.error(kind, message),
+    match with_verbose(alloc, command).into_made() {
+        Ok(command) => usage_error(command.bin_name(name), kind, message),
         Err(error) => Err(error),
     }
 }

@@ -343,13 +343,11 @@ fn read_question(alloc: Global, name: &str, matches: &ArgMatches<'_>) -> Result<
     ensures faults { FailsBy (faults_of_report name.now (rows_of (found_of matches.now))) result }
     ensures question { IfOk result (λ question. question ≡ question_in name.now (rows_of (found_of matches.now))) }
 {
-    if name == "check" {
-        return check_question_in(alloc, matches);
+    match name {
+        "check" => check_question_in(alloc, matches),
+        "certify" => read_names(alloc, matches),
+        _ => read_certificate(alloc, matches),
     }
-    if name == "certify" {
-        return read_names(alloc, matches);
-    }
-    read_certificate(alloc, matches)
 }
 
 // Reads the profile's path, beside the question.

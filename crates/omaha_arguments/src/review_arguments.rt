@@ -112,7 +112,7 @@ fn source_in(alloc: Global, matches: &ArgMatches<'_>) -> Result<Source, AllocErr
 {
     match optional_string(alloc, matches, "to")? {
         Some(to) => Ok(Source::Server(to)),
-        None => copy_string(alloc, matches, "F").map(Source::Profile),
+        None => Ok(Source::Profile(copy_string(alloc, matches, "F")?)),
     }
 }
 

@@ -11,7 +11,7 @@ use crate::command::{Command, Serve};
 use crate::history_paths::{history_fault, invalid_history};
 use crate::options::{
     Entry, Making, copy_strings, flag_in, number_in, number_of, number_within, optional_string,
-    optional_strings, seconds_in, titled, with_entries, workers_in,
+    seconds_in, titled, with_entries, workers_in,
 };
 use crate::rejections::{out_of_memory, rejection};
 use clap::error::ErrorKind;
@@ -366,12 +366,10 @@ struct Files {
 fn files_in(alloc: Global, matches: &ArgMatches<'_>) -> Result<Files, AllocError>
     ensures { IfOk result (λ files. files ≡ files_in (rows_of (found_of matches.now))) }
 {
-    let (profile, history) = optional_strings(alloc, matches, "profile", "history")?;
-    let log = optional_string(alloc, matches, "log")?;
     Ok(Files {
-        profile,
-        history,
-        log,
+        profile: optional_string(alloc, matches, "profile")?,
+        history: optional_string(alloc, matches, "history")?,
+        log: optional_string(alloc, matches, "log")?,
     })
 }
 

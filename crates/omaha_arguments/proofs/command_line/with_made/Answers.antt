@@ -8,7 +8,6 @@ pub returns-in-Ok : goal.returns-in-Ok
 returns-in-Ok c app own plain is_app is_own =
     let program : app_of c.in-Ok.program ≡ app = search rules in
     let is_plain : (app_of c.args.command).top.is_plain ≡ true = ap (λ (a : App). a.top.is_plain) is_own ∙ plain in
-    rw c.of.ensures
-    (IfOk-weaker c.subcommand.result _ _
+    IfOk-weaker c.subcommand.result _ _
     (λ more adds. adds.shape (third_denies _ _ _ _ is_plain) ∙ ap₂ (λ (a o : App). with_subcommand a o.top) program is_own)
-    c.subcommand.ensures)
+    c.subcommand.ensures
