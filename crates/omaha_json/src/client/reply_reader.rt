@@ -236,16 +236,14 @@ fn read_check(
 ) -> Result<CheckReply, ReadError<ReplyFault>>
     ensures { Reads (λ reply. reply) result (check_of index (view update.now)) }
 {
-    let status = string_or_empty(update, "status");
-    if status == "ok" {
-        let offer = read_offer(alloc, index, update)?;
-        Ok(CheckReply::Offered(offer))
-    } else if status == "noupdate" {
-        Ok(CheckReply::NoUpdate)
-    } else if status == "error-internal" {
-        Ok(CheckReply::Internal)
-    } else {
-        Ok(CheckReply::Other)
+    match string_or_empty(update, "status") {
+        "ok" => {
+            let offer = read_offer(alloc, index, update)?;
+            Ok(CheckReply::Offered(offer))
+        }
+        "noupdate" => Ok(CheckReply::NoUpdate),
+        "error-internal" => Ok(CheckReply::Internal),
+        _ => Ok(CheckReply::Other),
     }
 }
 
@@ -301,12 +299,10 @@ fn read_state(
 ) -> Result<AppState, ReadError<ReplyFault>>
     ensures { Reads (λ state. state) result (state_with index status.now (view app.now)) }
 {
-    if status == "ok" {
-        read_known(alloc, index, app)
-    } else if status == "error-unknownApplication" {
-        Ok(AppState::Unknown)
-    } else {
-        Ok(AppState::Other)
+    match status {
+        "ok" => read_known(alloc, index, app),
+        "error-unknownApplication" => Ok(AppState::Unknown),
+        _ => Ok(AppState::Other),
     }
 }
 
