@@ -143,10 +143,10 @@ fn hint_of(kind: Kind, key: &str) -> Option<&'static str>
     ensures { option_map (λ hint. hint.now) result ≡ hint_of kind key.now }
 {
     match kind {
-        Kind::Profile if key == "base" || key == "edit" => {
+        Kind::Profile if matches!(key, "base" | "edit") => {
             Some("is this a script? try omaha check PROFILE --script FILE")
         }
-        Kind::Script if key == "app" || key == "mirror" => {
+        Kind::Script if matches!(key, "app" | "mirror") => {
             Some("is this a profile? a script has the keys schema, base and edit")
         }
         _ => None,

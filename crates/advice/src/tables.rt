@@ -124,9 +124,9 @@ fn holds_tables(kind: Kind, key: &str) -> bool
     ensures { result ≡ holds_tables kind key.now }
 {
     match kind {
-        Kind::Profile => key == "mirror" || key == "app",
+        Kind::Profile => matches!(key, "mirror" | "app"),
         Kind::Script => key == "edit",
-        Kind::App => key == "cohort" || key == "release" || key == "diff",
+        Kind::App => matches!(key, "cohort" | "release" | "diff"),
         _ => false,
     }
 }
