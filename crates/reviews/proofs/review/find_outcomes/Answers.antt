@@ -1,4 +1,5 @@
 use Rattle.std.proofs.Common.{◌≡◌, ℕ, ◌+◌, ◌<◌, List, get_or, length, sym, ap, ◌∙◌, subst, arith}
+use Rattle.std.proofs.lemmas.Grind.{common_steps}
 use Rattle.std.proofs.lemmas.List.{length_push}
 use Rattle.catalogue.specs.declared.content.Release.{Release}
 use Rattle.payload_graph.specs.declared.place.Place.TheVariants.{At}
@@ -38,3 +39,9 @@ returns c =
     let all : c.loop-release.release ≡ length app.releases = omega arith in
     subst (AreOutcomes app key) (sym c.in_ok-shared.ensures)
     (record { sized = kept.sized ∙ all; each = λ release d within. kept.each release d (omega arith) })
+
+pub loop-release-init : goal.loop-release-init
+loop-release-init c = grind (arith, common_steps)
+
+pub quote_at-quote-requires-clause-release : goal.quote_at-quote-requires-clause-release
+quote_at-quote-requires-clause-release c = grind (arith, common_steps)
