@@ -12,7 +12,7 @@ use std::thread::Threads;
 use streams::{Disk, ReadFailure};
 use values::Text;
 
-/// How many bytes a profile may have.
+/// How many bytes a profile may have: 256 MiB.
 pub const MAX_PROFILE: u32 = 268435456;
 
 // rule: Service of a profile
@@ -65,7 +65,7 @@ pub fn service_in<R: Disk + AllocGlobal + Threads + Sync>(
     read_service(rt, rt.alloc(), profile, workers)
 }
 
-/// Reads a profile's file, and makes what requests are replied to from, by so many threads.
+/// Makes the service of a profile's file by so many threads, from 1 to 16. Fails as `open_service` does.
 pub fn open_profile<R: Disk + AllocGlobal + Threads + Sync>(
     rt: &R,
     path: &Text,
