@@ -125,7 +125,7 @@ def check_metrics(port):
     samples = dict(line.rsplit(" ", 1) for line in metrics.splitlines() if not line.startswith("#"))
     for result in ("published", "stale", "rejected", "malformed"):
         expect(result, samples.get(f'omaha_publishes_total{{result="{result}"}}'), "1")
-    for result in ("followed", "unreachable"):
+    for result in ("followed", "unreachable", "failed"):
         expect(result, samples.get(f'omaha_publishes_total{{result="{result}"}}'), "0")
     expect("raises", samples.get("omaha_raises_total"), "1")
     expect("reach of the history", samples.get("omaha_history_reachable"), "1")

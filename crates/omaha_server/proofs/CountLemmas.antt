@@ -32,12 +32,19 @@ word-nothing published word body reply here is success =
     subst (λ (b : List ℕ). IsNothing published b (Ok reply)) (sym is)
     (subst (λ (s : DeskStatus). IsNothing published word (Ok (s, reply.1))) (sym success) here)
 
+-- a word for which memory runs out
+word-failed :
+    (published : Bool) (word body : List ℕ) → IsNothing published word (Err off.Memory) → body ≡ word →
+    IsNothing published body (Err off.Memory)
+word-failed published word body here is =
+    subst (λ (b : List ℕ). IsNothing published b (Err off.Memory)) (sym is) here
+
 pub status-nothing :
     (published : Bool) (version body : List ℕ) (before : Overview) (answer : Result (DeskStatus × List ℕ) Off) →
     body ≡ status_word → ShowsStatus version before answer → IsNothing published body answer
 status-nothing published version body before (Ok reply) is (shown, known, replied) =
     word-nothing published status_word body reply (refl, refl) is (ap (λ (r : DeskStatus × List ℕ). r.0) replied)
-status-nothing published version body before (Err off.Memory) is shows = (refl, refl)
+status-nothing published version body before (Err off.Memory) is shows = word-failed published status_word body (refl, refl) is
 status-nothing published version body before (Err off.Closed) is never = absurd never
 
 pub stop-nothing :
@@ -45,7 +52,7 @@ pub stop-nothing :
     body ≡ stop_word → IsEnding before answer after → IsNothing published body answer
 stop-nothing published body before after (Ok reply) is (replied, same, ending) =
     word-nothing published stop_word body reply (refl, refl) is (ap (λ (r : DeskStatus × List ℕ). r.0) replied)
-stop-nothing published body before after (Err off.Memory) is unmoved = (refl, refl)
+stop-nothing published body before after (Err off.Memory) is unmoved = word-failed published stop_word body (refl, refl) is
 stop-nothing published body before after (Err off.Closed) is never = absurd never
 
 -- whoever asked the server to end has its reply, or there was no memory for it

@@ -24,6 +24,10 @@ stop_word = codes "stop"
 abbrev pub is_word : List ℕ → Bool
 is_word body = bytes_eq body (codes "dump") || bytes_eq body status_word || bytes_eq body stop_word
 
+-- a script without edits for no edition, since none has the number 0: whoever sends it asks for the edition's number
+abbrev pub asks_number : List ℕ → Bool
+asks_number body = bytes_eq body (codes "schema = 1\nbase = 0\n")
+
 -- what a look for a record of another server came to, by its line: one was adopted, or there was none
 abbrev pub followed_in : List ℕ → Option Outcome
 followed_in line = if starts_with nat_eq line (codes "followed ") then Some outcome.Followed else None
@@ -39,10 +43,10 @@ outcome_of body line =
 abbrev pub outcome_in : List ℕ → Result (DeskStatus × List ℕ) Off → Option Outcome
 outcome_in body (Ok (status.Success, line)) = outcome_of body line
 outcome_in body (Ok (status.BadRequest, line)) = Some outcome.Malformed
-outcome_in body (Ok (status.Conflict, line)) = Some outcome.Stale
+outcome_in body (Ok (status.Conflict, line)) = if asks_number body then None else Some outcome.Stale
 outcome_in body (Ok (status.UnprocessableContent, line)) = Some outcome.Rejected
 outcome_in body (Ok (status.ServiceUnavailable, line)) = Some outcome.Unreachable
-outcome_in body (Err off) = None
+outcome_in body (Err off) = if is_word body then None else Some outcome.Failed
 
 -- the counts after a call that came to this
 abbrev pub counted_by : Option Outcome → Counts → Counts

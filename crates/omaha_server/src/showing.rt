@@ -5,7 +5,7 @@ ghost use Rattle.operator_pages.specs.AppSights.{AreSights};
 ghost use Rattle.editions.specs.Editions.{content_of};
 ghost use Rattle.http_desks.specs.Calls.{answer_in};
 ghost use Rattle.http_desks.specs.Pages.{page_in};
-ghost use Rattle.omaha_server.specs.Outcomes.{counted_by, followed_in, is_word, outcome_in, outcome_of, reach_in};
+ghost use Rattle.omaha_server.specs.Outcomes.{asks_number, counted_by, followed_in, is_word, outcome_in, outcome_of, reach_in};
 ghost use Rattle.server_ports.specs.Counting.{cohort_counts};
 ghost use Rattle.omaha_server.specs.Showing.{AreGranted, IsKnown, ShowsPage, ShowsStatus, IsOverview};
 ghost use Rattle.omaha_server.specs.Overviews.{Overview, counted_at, has_more, last_edits, publish_of, published_by, settled_count, with_adopted};
@@ -243,6 +243,13 @@ fn is_word(body: &[u8]) -> bool
     body == b"dump".as_slice() || body == b"status".as_slice() || body == b"stop".as_slice()
 }
 
+// Whether a body only asks for the number of the edition: it is a script without edits for no edition.
+fn asks_number(body: &[u8]) -> bool
+    ensures { result ≡ asks_number body.now }
+{
+    body == b"schema = 1\nbase = 0\n".as_slice()
+}
+
 // What a look for a record of another server came to, by its line.
 fn followed_in(line: &[u8]) -> Option<Outcome>
     ensures { result ≡ followed_in line.now }
@@ -277,11 +284,13 @@ fn outcome_in(body: &[u8], answered: &Result<Answer, Off>) -> Option<Outcome>
         Ok(answer) => match answer.status {
             DeskStatus::Success => outcome_of(body, answer.body.as_slice()),
             DeskStatus::BadRequest => Some(Outcome::Malformed),
+            DeskStatus::Conflict if asks_number(body) => None,
             DeskStatus::Conflict => Some(Outcome::Stale),
             DeskStatus::UnprocessableContent => Some(Outcome::Rejected),
             DeskStatus::ServiceUnavailable => Some(Outcome::Unreachable),
         },
-        Err(_) => None,
+        Err(_) if is_word(body) => None,
+        Err(_) => Some(Outcome::Failed),
     }
 }
 

@@ -20,6 +20,7 @@ no_counts time = record {
   rejected = 0;
   malformed = 0;
   unreachable = 0;
+  failed = 0;
   raised = 0;
   lost = None;
 }
@@ -33,6 +34,7 @@ counted outcome.Stale counts = record counts { stale = more counts.stale }
 counted outcome.Rejected counts = record counts { rejected = more counts.rejected }
 counted outcome.Malformed counts = record counts { malformed = more counts.malformed }
 counted outcome.Unreachable counts = record counts { unreachable = more counts.unreachable }
+counted outcome.Failed counts = record counts { failed = more counts.failed }
 counted outcome.Raised counts = record counts { raised = more counts.raised }
 
 -- since when no server of the history replies, after a call at a time that found this
@@ -54,6 +56,7 @@ word_of outcome.Stale = codes "stale"
 word_of outcome.Rejected = codes "rejected"
 word_of outcome.Malformed = codes "malformed"
 word_of outcome.Unreachable = codes "unreachable"
+word_of outcome.Failed = codes "failed"
 word_of outcome.Raised = codes "raised"
 
 -- how many calls came to something
@@ -64,4 +67,5 @@ count_of counts outcome.Stale = counts.stale
 count_of counts outcome.Rejected = counts.rejected
 count_of counts outcome.Malformed = counts.malformed
 count_of counts outcome.Unreachable = counts.unreachable
+count_of counts outcome.Failed = counts.failed
 count_of counts outcome.Raised = counts.raised

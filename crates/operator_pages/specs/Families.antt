@@ -33,7 +33,8 @@ unpublished_samples counts =
     result_sample counts outcome.Stale
     ++ (result_sample counts outcome.Rejected
     ++ (result_sample counts outcome.Malformed
-    ++ result_sample counts outcome.Unreachable))
+    ++ (result_sample counts outcome.Unreachable
+    ++ result_sample counts outcome.Failed)))
 
 -- the same of each result
 unfoldable pub publishes_family : Counts → List ℕ

@@ -82,7 +82,8 @@ other_rows counts =
     ++ (call_row counts outcome.Rejected
     ++ (call_row counts outcome.Malformed
     ++ (call_row counts outcome.Unreachable
-    ++ call_row counts outcome.Raised)))
+    ++ (call_row counts outcome.Failed
+    ++ call_row counts outcome.Raised))))
 
 unfoldable pub call_rows : Counts → List ℕ
 call_rows counts = published_rows counts ++ other_rows counts

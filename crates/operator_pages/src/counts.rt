@@ -20,6 +20,8 @@ pub struct Counts {
     pub malformed: u64,
     /// How many calls got no reply from any server of the history, with status 503.
     pub unreachable: u64,
+    /// How many calls failed, with status 500.
+    pub failed: u64,
     /// How many budgets were raised.
     pub raised: u64,
     /// When the history was found to be unreachable, in seconds since 1970, if no call since then found it to reply.
@@ -41,6 +43,8 @@ pub enum Outcome {
     Malformed,
     /// No server of the history replied, with status 503.
     Unreachable,
+    /// The call failed, with status 500.
+    Failed,
     /// The budget was raised.
     Raised,
 }
@@ -69,6 +73,7 @@ impl Counts {
             rejected: 0,
             malformed: 0,
             unreachable: 0,
+            failed: 0,
             raised: 0,
             lost: None,
         }
@@ -87,6 +92,7 @@ impl Counts {
             Outcome::Rejected => counts.rejected = self.rejected.saturating_add(1),
             Outcome::Malformed => counts.malformed = self.malformed.saturating_add(1),
             Outcome::Unreachable => counts.unreachable = self.unreachable.saturating_add(1),
+            Outcome::Failed => counts.failed = self.failed.saturating_add(1),
             Outcome::Raised => counts.raised = self.raised.saturating_add(1),
         }
         counts
@@ -120,6 +126,7 @@ pub(crate) fn word_of(outcome: Outcome) -> &'static str
         Outcome::Rejected => "rejected",
         Outcome::Malformed => "malformed",
         Outcome::Unreachable => "unreachable",
+        Outcome::Failed => "failed",
         Outcome::Raised => "raised",
     }
 }
@@ -135,6 +142,7 @@ pub(crate) fn count_of(counts: &Counts, outcome: Outcome) -> u64
         Outcome::Rejected => counts.rejected,
         Outcome::Malformed => counts.malformed,
         Outcome::Unreachable => counts.unreachable,
+        Outcome::Failed => counts.failed,
         Outcome::Raised => counts.raised,
     }
 }

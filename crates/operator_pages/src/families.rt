@@ -54,7 +54,8 @@ fn push_unpublished(alloc: Global, text: &mut String, counts: &Counts) -> Result
     push_result(alloc, text, counts, Outcome::Stale)?;
     push_result(alloc, text, counts, Outcome::Rejected)?;
     push_result(alloc, text, counts, Outcome::Malformed)?;
-    push_result(alloc, text, counts, Outcome::Unreachable)
+    push_result(alloc, text, counts, Outcome::Unreachable)?;
+    push_result(alloc, text, counts, Outcome::Failed)
 }
 
 /// Adds how many scripts and records of other servers came to each result.

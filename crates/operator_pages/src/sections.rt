@@ -164,6 +164,7 @@ fn push_other_rows(text: &mut String, counts: &Counts) -> Result<(), AllocError>
     push_call(text, counts, Outcome::Rejected)?;
     push_call(text, counts, Outcome::Malformed)?;
     push_call(text, counts, Outcome::Unreachable)?;
+    push_call(text, counts, Outcome::Failed)?;
     push_call(text, counts, Outcome::Raised)
 }
 
