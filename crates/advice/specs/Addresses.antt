@@ -24,6 +24,10 @@ is_socket address = starts_with nat_eq address (codes "unix:")
 abbrev pub has_scheme : List ℕ → Bool
 has_scheme address = starts_with nat_eq address (codes "http://") || starts_with nat_eq address (codes "https://")
 
+-- the address has nothing before its port
+abbrev pub has_no_host : List ℕ → Bool
+has_no_host address = starts_with nat_eq address (codes ":")
+
 -- the address begins with an IPv6 address
 abbrev pub has_literal : List ℕ → Bool
 has_literal address = starts_with nat_eq address (codes "[")
@@ -49,15 +53,20 @@ abbrev pub fault_of_pair : List ℕ → Option AddressFault
 fault_of_pair address =
     if has_colon (tail_of address) then fault_of_port (after_first is_colon (tail_of address)) else Some fault.NoPort
 
+-- the same, of which there may be no host
+abbrev pub fault_of_place : List ℕ → Option AddressFault
+fault_of_place address =
+    option_or (fault_of_pair address) (if has_no_host address then Some fault.NoHost else None)
+
 -- rule: Fault of an address
--- an empty string, a socket without a path, a scheme, a path, no port, a port that is no number, or one above 65535
+-- an empty string, a socket without a path, a scheme, a path, no port, a port that is no number, one above 65535, or no host
 abbrev pub address_fault : List ℕ → Option AddressFault
 address_fault address =
     if length address == 0 then Some fault.Empty
     else if is_socket address then (if length address == 5 then Some fault.NoPath else None)
     else if has_scheme address then Some fault.Scheme
     else if list_any is_slash address then Some fault.Path
-    else fault_of_pair address
+    else fault_of_place address
 
 -- the same of an address that a server may have been given twice
 abbrev pub given_fault : List ℕ → Bool → Option AddressFault
@@ -72,4 +81,5 @@ address_remedy fault.Path = codes "write HOST:PORT, without a path"
 address_remedy fault.NoPort = codes "it has no port: write HOST:PORT, or unix:PATH"
 address_remedy fault.BadPort = codes "its port is no number: write HOST:PORT, or unix:PATH"
 address_remedy fault.HighPort = codes "its port is above 65535"
+address_remedy fault.NoHost = codes "it has no host: write HOST:PORT, such as 127.0.0.1:8080"
 address_remedy fault.Twice = codes "--listen and --operator have this address: give each its own"

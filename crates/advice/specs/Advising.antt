@@ -10,11 +10,17 @@ use Rattle.failures.specs.Failures.{failure_string}
 use Rattle.failures.specs.declared.failure.Failure.{Failure}
 use Rattle.failures.specs.declared.failure.Failure.TheVariants as failure
 use Rattle.advice.specs.Documents.{edits_in, max_file}
-use Rattle.advice.specs.Looks.{IsAddressAdvice, IsLook, Sights}
+use Rattle.advice.specs.Looks.{IsAddressAdvice, IsLook, IsOddLook, IsServerAdvice, Sights}
 use Rattle.advice.specs.Replies.{IsPathSaid, IsReplySaid, explained}
-use Rattle.advice.specs.Sources.{aim_of, file_aim, is_given_twice, profile_path, script_path}
+use Rattle.advice.specs.Sources.{aim_of, file_aim, history_aim, is_given_twice, packages_path, profile_path, script_path, server_of}
 use Rattle.advice.specs.declared.documents.Notice.TheVariants as notice
+use Rattle.advice.specs.declared.looks.Aim.TheVariants as aim
 use Rattle.advice.specs.declared.tables.Kind.TheVariants as kind
+use Rattle.failures.specs.declared.history_fault.HistoryFault.{HistoryFault}
+use Rattle.failures.specs.declared.history_fault.HistoryFault.TheVariants as history_fault
+use Rattle.kept_records.specs.declared.fault.OpenFault.TheVariants as open_fault
+use Rattle.update_client.specs.declared.fault.Fault.{Fault as WalkFault}
+use Rattle.update_client.specs.declared.fault.Fault.TheVariants as walk
 
 -- the profile at a path has that rejected edit
 abbrev pub IsRefused : (List ℕ → Known) → Option (List ℕ) → Refused → Type 0
@@ -37,6 +43,25 @@ IsEditAdvice files command refused said =
 abbrev pub IsFileAdvice : Sights → Command → List ℕ → List ℕ → Type 0
 IsFileAdvice sights command path said = IsLook sights (file_aim command path) path (codes "file") said
 
+-- rule: Advice on a walk
+-- what is wrong with the address of a walk's server, or what a second look finds there, if the link failed
+abbrev pub IsWalkAdvice : Sights → WalkFault → List ℕ → List ℕ → Type 0
+IsWalkAdvice sights walk.Link address said = IsServerAdvice sights address said
+IsWalkAdvice sights other address said = ⊥
+
+-- rule: Advice on compared packages
+-- what a second look finds in place of the folder of packages
+abbrev pub IsFolderAdvice : Sights → Option (List ℕ) → List ℕ → Type 0
+IsFolderAdvice sights None said = ⊥
+IsFolderAdvice sights (Some path) said = IsOddLook sights aim.Enter path (codes "packages") said
+
+-- rule: Advice on a history
+-- what a second look finds at the path of a history that can't be opened
+abbrev pub IsHistoryAdvice : Sights → Command → List ℕ → HistoryFault → List ℕ → Type 0
+IsHistoryAdvice sights command path (history_fault.Open open_fault.Unopened) said =
+    IsOddLook sights (history_aim command) path (codes "history") said
+IsHistoryAdvice sights command path other said = ⊥
+
 -- what is said of a failure by the files at hand or a second look
 abbrev pub IsFound : (List ℕ → Known) → Sights → Command → Failure → List ℕ → Type 0
 IsFound files sights command (failure.Profile fault) said =
@@ -49,6 +74,9 @@ IsFound files sights command (failure.Stale number) said =
 IsFound files sights command (failure.Net address) said =
     IsAddressAdvice sights (aim_of command) address (is_given_twice command address) said
 IsFound files sights command (failure.File path) said = IsFileAdvice sights command path said
+IsFound files sights command (failure.Walk fault) said = IsWalkAdvice sights fault (server_of command) said
+IsFound files sights command (failure.Packages count) said = IsFolderAdvice sights (packages_path command) said
+IsFound files sights command (failure.History path fault) said = IsHistoryAdvice sights command path fault said
 IsFound files sights command (failure.Declined reply) said =
     IsReplySaid files command reply.status reply.body.items said
 IsFound files sights command (failure.Code code) said = said ≡ codes "omaha explain lists all codes"

@@ -1,9 +1,10 @@
 -- What a second look at an address or a file finds, and what is said of it; this project's profile.
-use Rattle.std.specs.Prelude.{◌≡◌, ℕ, Bool, List, ◌++◌, codes, Option, Some, None}
+use Rattle.std.specs.Prelude.{◌≡◌, ◌≢◌, ℕ, Bool, false, List, ◌++◌, codes, Option, Some, None}
 use Rattle.streams.specs.Strings.{shown_string}
 use Rattle.advice.specs.Addresses.{address_remedy, given_fault}
 use Rattle.advice.specs.declared.addresses.AddressFault.{AddressFault}
 use Rattle.advice.specs.declared.looks.Aim.{Aim}
+use Rattle.advice.specs.declared.looks.Aim.TheVariants as aim
 use Rattle.advice.specs.declared.looks.Seen.{Seen}
 use Rattle.advice.specs.declared.looks.Seen.TheVariants as seen
 
@@ -52,3 +53,25 @@ IsAddressLook sights aim address None said = IsLook sights aim address (codes "n
 -- what is wrong with an address, which a server may have been given twice, else what a second look finds there
 abbrev pub IsAddressAdvice : Sights → Aim → List ℕ → Bool → List ℕ → Type 0
 IsAddressAdvice sights aim address is_twice said = IsAddressLook sights aim address (given_fault address is_twice) said
+
+-- what a second look finds if nothing is wrong
+abbrev pub wanted_of : Aim → Seen
+wanted_of aim.Connect = seen.Listening
+wanted_of aim.Bind = seen.Free
+wanted_of aim.Read = seen.Readable
+wanted_of aim.Append = seen.Writable
+wanted_of aim.Enter = seen.Folder
+
+-- what was seen in place of that
+abbrev pub IsOddLook : Sights → Aim → List ℕ → List ℕ → List ℕ → Type 0
+IsOddLook sights aim what word said =
+    (found : Seen) × sights aim what found × (found ≢ wanted_of aim) × (said ≡ look_string what (seen_string found) word)
+
+-- of the address of a server that didn't reply to a walk, by its fault
+abbrev pub IsServerLook : Sights → List ℕ → Option AddressFault → List ℕ → Type 0
+IsServerLook sights address (Some fault) said = said ≡ look_string address (address_remedy fault) (codes "U1")
+IsServerLook sights address None said = IsOddLook sights aim.Connect address (codes "U1") said
+
+-- what is wrong with that address, else what a second look finds there
+abbrev pub IsServerAdvice : Sights → List ℕ → List ℕ → Type 0
+IsServerAdvice sights address said = IsServerLook sights address (given_fault address false) said

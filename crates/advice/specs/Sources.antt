@@ -1,5 +1,6 @@
 -- Which files and addresses a command names; this project's profile.
 use Rattle.std.specs.Prelude.{ℕ, ◌&&◌, Bool, false, List, [], codes, if◌then◌else◌, bytes_eq, Option, Some, None}
+use Rattle.std.specs.Option.{is_some}
 use Rattle.omaha_arguments.specs.declared.command.Command.{Command}
 use Rattle.omaha_arguments.specs.declared.command.Command.TheVariants as command
 use Rattle.omaha_arguments.specs.declared.command.Question.{Question}
@@ -54,12 +55,24 @@ server_of (command.Raise asked) = asked.to
 server_of (command.Dump asked) = asked.to
 server_of (command.Status asked) = asked.to
 server_of (command.Stop asked) = asked.to
+server_of (command.Walk asked) = asked.to
 server_of other = []
 
 -- what a command does at an address
 abbrev pub aim_of : Command → Aim
 aim_of (command.Serve asked) = aim.Bind
 aim_of other = aim.Connect
+
+-- the path of a command's folder of packages that are compared
+abbrev pub packages_path : Command → Option (List ℕ)
+packages_path (command.Compare asked) = Some asked.packages
+packages_path (command.Publish asked) = asked.packages
+packages_path other = None
+
+-- what a command does at the path of a history: a server that names a profile makes a new one there
+abbrev pub history_aim : Command → Aim
+history_aim (command.Serve asked) = if is_some asked.profile then aim.Append else aim.Read
+history_aim other = aim.Read
 
 -- the path is the one that is named
 abbrev pub is_named : List ℕ → Option (List ℕ) → Bool

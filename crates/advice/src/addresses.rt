@@ -2,7 +2,7 @@
 
 ghost use Rattle.std.specs.Prelude.{◌≡◌, Some};
 ghost use Rattle.std.specs.List.{after_first};
-ghost use Rattle.advice.specs.Addresses.{address_fault, address_remedy, fault_of_number, fault_of_pair, fault_of_port, given_fault, has_colon, has_literal, has_scheme, is_bracket, is_colon, is_slash, is_socket, tail_of};
+ghost use Rattle.advice.specs.Addresses.{address_fault, address_remedy, fault_of_number, fault_of_pair, fault_of_place, fault_of_port, given_fault, has_colon, has_literal, has_no_host, has_scheme, is_bracket, is_colon, is_slash, is_socket, tail_of};
 ghost use Rattle.std.specs.List.{list_any};
 
 use omaha_arguments::number_of;
@@ -18,6 +18,7 @@ pub(crate) enum AddressFault {
     NoPort,
     BadPort,
     HighPort,
+    NoHost,
     Twice,
 }
 
@@ -34,6 +35,7 @@ impl AddressFault {
             AddressFault::NoPort => "it has no port: write HOST:PORT, or unix:PATH",
             AddressFault::BadPort => "its port is no number: write HOST:PORT, or unix:PATH",
             AddressFault::HighPort => "its port is above 65535",
+            AddressFault::NoHost => "it has no host: write HOST:PORT, such as 127.0.0.1:8080",
             AddressFault::Twice => "--listen and --operator have this address: give each its own",
         }
     }
@@ -58,6 +60,12 @@ fn has_scheme(address: &str) -> bool
     ensures { result ≡ has_scheme address.now }
 {
     address.as_bytes().starts_with(b"http://") || address.as_bytes().starts_with(b"https://")
+}
+
+fn has_no_host(address: &str) -> bool
+    ensures { result ≡ has_no_host address.now }
+{
+    address.as_bytes().starts_with(b":")
 }
 
 fn has_literal(address: &str) -> bool
@@ -139,6 +147,17 @@ fn fault_of_pair(address: &str) -> Option<AddressFault>
     }
 }
 
+// What is wrong with a host and a port, of which there may be no host.
+fn fault_of_place(address: &str) -> Option<AddressFault>
+    ensures { result ≡ fault_of_place address.now }
+{
+    match fault_of_pair(address) {
+        Some(fault) => Some(fault),
+        None if has_no_host(address) => Some(AddressFault::NoHost),
+        None => None,
+    }
+}
+
 // rule: Fault of an address
 // What is wrong with an address, if it is neither HOST:PORT nor unix:PATH.
 fn address_fault(address: &str) -> Option<AddressFault>
@@ -157,7 +176,7 @@ fn address_fault(address: &str) -> Option<AddressFault>
     } else if has_slash(address) {
         Some(AddressFault::Path)
     } else {
-        fault_of_pair(address)
+        fault_of_place(address)
     }
 }
 

@@ -1,11 +1,11 @@
 //! Advice on failures.
 
 ghost use Rattle.std.specs.Prelude.{◌≡◌, [], Err, IfOk, IfSome, List, None, Ok, option_map, string_bytes, true, ℕ};
-ghost use Rattle.advice.specs.Advising.{IsAdvice, IsEditAdvice, IsFileAdvice, IsFound, IsRefused};
+ghost use Rattle.advice.specs.Advising.{IsAdvice, IsEditAdvice, IsFileAdvice, IsFolderAdvice, IsFound, IsHistoryAdvice, IsRefused, IsWalkAdvice};
 ghost use Rattle.advice.specs.Documents.{edits_in, notice_of};
 ghost use Rattle.advice.specs.Looks.{IsAddressAdvice};
 ghost use Rattle.advice.specs.Replies.{IsPathSaid, explained};
-ghost use Rattle.advice.specs.Sources.{aim_of, is_given_twice, profile_path, script_path};
+ghost use Rattle.advice.specs.Sources.{aim_of, is_given_twice, packages_path, profile_path, script_path, server_of};
 ghost use Rattle.advice.specs.declared.tables.Kind.TheVariants as kind;
 ghost use Rattle.catalogue.specs.Batches.{outcome};
 ghost use Rattle.catalogue.specs.declared.edit.Edit.{Edit};
@@ -13,16 +13,21 @@ ghost use Rattle.failures.specs.Failures.{failure_string};
 ghost use Rattle.streams.specs.Reading.{IsWhole};
 
 use crate::documents::{MAX_FILE, Trouble};
-use crate::looks::{Looks, address_advice, look_again};
+use crate::looks::{Aim, Looks, address_advice, look_again, odd_look, server_advice};
 use crate::replied::{explained, path_said, reply_advice};
-use crate::sources::{aim_of, file_aim, is_given_twice, profile_path, script_path};
+use crate::sources::{
+    aim_of, file_aim, history_aim, is_given_twice, packages_path, profile_path, script_path,
+    server_of,
+};
 use crate::tables::Kind;
 use catalogue::{Batch, Catalogue, Refused};
-use failures::Failure;
+use failures::{Failure, HistoryFault};
+use kept_records::OpenFault;
 use omaha_arguments::Command;
 use profile_toml::read_profile;
 use std::alloc::{AllocError, Global};
 use streams::Disk;
+use update_client::Fault as WalkFault;
 use values::ReadError;
 
 // Whether a batch of the empty catalogue is rejected so.
@@ -117,6 +122,52 @@ fn net_advice<R: Looks>(rt: &R, alloc: Global, command: &Command, address: &str)
     address_advice(rt, alloc, aim_of(command), address, is_twice)
 }
 
+// rule: Advice on a walk
+// What is wrong with the address of a walk's server, or what a second look finds there, if the link failed.
+fn walk_advice<R: Looks>(
+    rt: &R,
+    alloc: Global,
+    command: &Command,
+    fault: WalkFault,
+) -> Option<String>
+    ensures { IfSome result (λ said. IsWalkAdvice (R.sights rt.now) fault (server_of command.now) (string_bytes said)) }
+{
+    match fault {
+        WalkFault::Link => server_advice(rt, alloc, server_of(command)),
+        _ => None,
+    }
+}
+
+// rule: Advice on compared packages
+// What a second look finds in place of the folder of packages.
+fn folder_advice<R: Looks>(rt: &R, alloc: Global, path: Option<&str>) -> Option<String>
+    ensures { IfSome result (λ said. IsFolderAdvice (R.sights rt.now) (option_map (λ path. path.now) path.entry) (string_bytes said)) }
+{
+    match path {
+        Some(path) => odd_look(rt, alloc, Aim::Enter, path, "packages"),
+        None => None,
+    }
+}
+
+// rule: Advice on a history
+// What a second look finds at the path of a history that can't be opened.
+fn history_advice<R: Looks>(
+    rt: &R,
+    alloc: Global,
+    command: &Command,
+    path: &str,
+    fault: &HistoryFault,
+) -> Option<String>
+    ensures { IfSome result (λ said. IsHistoryAdvice (R.sights rt.now) command.now path.now fault.now (string_bytes said)) }
+{
+    match fault {
+        HistoryFault::Open(OpenFault::Unopened) => {
+            odd_look(rt, alloc, history_aim(command), path, "history")
+        }
+        _ => None,
+    }
+}
+
 // A copy of a string.
 fn fixed(alloc: Global, text: &str) -> Option<String>
     ensures { IfSome result (λ copy. string_bytes copy ≡ text.now) }
@@ -140,6 +191,9 @@ fn find<R: Disk + Looks + AllocGlobal>(
         Failure::Stale(number) => script_said(rt, alloc, command, Trouble::Stale(*number)),
         Failure::Net(address) => net_advice(rt, alloc, command, address.as_str()),
         Failure::File(path) => file_advice(rt, alloc, command, path.as_str()),
+        Failure::Walk(fault) => walk_advice(rt, alloc, command, *fault),
+        Failure::Packages(_) => folder_advice(rt, alloc, packages_path(command)),
+        Failure::History(path, fault) => history_advice(rt, alloc, command, path.as_str(), fault),
         Failure::Declined(reply) => {
             reply_advice(rt, alloc, command, reply.status, reply.body.as_slice())
         }
@@ -163,8 +217,8 @@ fn explain_failure(alloc: Global, failure: &Failure) -> Result<Option<String>, A
 /// Says more of a failure of a command than its line: the value, its place and what to do; else where the line is
 /// explained. Nothing without memory, or if nothing is to be said.
 ///
-/// Of an invalid script or profile it reads the file again. Of an address or a file it looks a second time: see
-/// `Looks::look`. It is one line without its end, and has no control characters.
+/// Of an invalid script or profile it reads the file again. Of an address, a file, a folder, a history or a walk's server it
+/// looks a second time: see `Looks::look`. It is one line without its end, and has no control characters.
 pub fn advice_on<R: Disk + Looks + AllocGlobal>(
     rt: &R,
     command: &Command,

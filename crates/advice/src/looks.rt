@@ -2,7 +2,7 @@
 
 ghost use Rattle.std.specs.Prelude.{◌≡◌, IfOk, IfSome, Some, codes, string_bytes};
 ghost use Rattle.advice.specs.Addresses.{address_remedy};
-ghost use Rattle.advice.specs.Looks.{IsAddressAdvice, IsLook, look_string, seen_string};
+ghost use Rattle.advice.specs.Looks.{IsAddressAdvice, IsLook, IsOddLook, IsServerAdvice, look_string, seen_string, wanted_of};
 ghost use Rattle.advice.specs.declared.looks.Aim.TheVariants as aim;
 
 use crate::addresses::given_fault;
@@ -32,7 +32,7 @@ pub enum Aim {
 }
 
 /// What a second look finds.
-#[derive(Clone, Copy)]
+#[derive(Clone, Copy, PartialEq, Eq)]
 pub enum Seen {
     /// There is no such file or folder.
     Missing,
@@ -72,6 +72,21 @@ pub enum Seen {
     Unmade,
     /// Something else is wrong.
     Other,
+}
+
+impl Aim {
+    // What a second look finds if nothing is wrong.
+    fn wanted(&self) -> Seen
+        ensures { result ≡ wanted_of self.now }
+    {
+        match self {
+            Aim::Connect => Seen::Listening,
+            Aim::Bind => Seen::Free,
+            Aim::Read => Seen::Readable,
+            Aim::Append => Seen::Writable,
+            Aim::Enter => Seen::Folder,
+        }
+    }
 }
 
 impl Seen {
@@ -310,5 +325,34 @@ pub(crate) fn address_advice<R: Looks>(
     match given_fault(address, is_twice) {
         Some(fault) => say(alloc, address, &fault, "net").ok(),
         None => look_again(rt, alloc, aim, address, "net"),
+    }
+}
+
+/// Says what a second look finds, unless nothing is wrong there.
+pub(crate) fn odd_look<R: Looks>(
+    rt: &R,
+    alloc: Global,
+    aim: Aim,
+    what: &str,
+    word: &str,
+) -> Option<String>
+    ensures { IfSome result (λ said. IsOddLook (R.sights rt.now) aim what.now word.now (string_bytes said)) }
+{
+    let seen = rt.look(aim, what);
+    if seen == aim.wanted() {
+        None
+    } else {
+        say(alloc, what, &seen, word).ok()
+    }
+}
+
+/// Says what is wrong with the address of a server that didn't reply to a walk, else what a second look finds there, unless
+/// somebody listens.
+pub(crate) fn server_advice<R: Looks>(rt: &R, alloc: Global, address: &str) -> Option<String>
+    ensures { IfSome result (λ said. IsServerAdvice (R.sights rt.now) address.now (string_bytes said)) }
+{
+    match given_fault(address, false) {
+        Some(fault) => say(alloc, address, &fault, "U1").ok(),
+        None => odd_look(rt, alloc, Aim::Connect, address, "U1"),
     }
 }

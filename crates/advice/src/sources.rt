@@ -1,7 +1,7 @@
 //! The files and addresses that commands name.
 
 ghost use Rattle.std.specs.Prelude.{◌≡◌, option_map};
-ghost use Rattle.advice.specs.Sources.{aim_of, file_aim, is_given_twice, is_named, profile_in, profile_path, script_in, script_path, serve_aim, server_in, server_of, unless_input};
+ghost use Rattle.advice.specs.Sources.{aim_of, file_aim, history_aim, is_given_twice, is_named, packages_path, profile_in, profile_path, script_in, script_path, serve_aim, server_in, server_of, unless_input};
 
 use crate::looks::Aim;
 use omaha_arguments::{Command, Question, Serve, Source};
@@ -89,6 +89,7 @@ pub(crate) fn server_of(command: &Command) -> &str
         Command::Dump(asked) => asked.to.as_str(),
         Command::Status(asked) => asked.to.as_str(),
         Command::Stop(asked) => asked.to.as_str(),
+        Command::Walk(asked) => asked.to.as_str(),
         _ => "",
     }
 }
@@ -100,6 +101,27 @@ pub(crate) fn aim_of(command: &Command) -> Aim
     match command {
         Command::Serve(_) => Aim::Bind,
         _ => Aim::Connect,
+    }
+}
+
+/// The path of a command's folder of packages that are compared.
+pub(crate) fn packages_path(command: &Command) -> Option<&str>
+    ensures { option_map (λ path. path.now) result ≡ packages_path command.now }
+{
+    match command {
+        Command::Compare(asked) => Some(asked.packages.as_str()),
+        Command::Publish(asked) => string_of(&asked.packages),
+        _ => None,
+    }
+}
+
+/// What a command does at the path of a history: a server that names a profile makes a new one there.
+pub(crate) fn history_aim(command: &Command) -> Aim
+    ensures { result ≡ history_aim command.now }
+{
+    match command {
+        Command::Serve(asked) if asked.profile.is_some() => Aim::Append,
+        _ => Aim::Read,
     }
 }
 
