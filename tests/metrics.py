@@ -268,6 +268,7 @@ def check_connections(listen, port):
         expect("idle", samples['omaha_connections{state="idle"}'], 2)
     for connection in idle:
         connection.close()
+    wait_for(port, 'omaha_connections{state="active"}', 0)
     samples = wait_for(port, 'omaha_connections{state="idle"}', 0)
     expect("open in the end", sum(number for name, number in samples.items() if "omaha_connections" in name), 0)
 
