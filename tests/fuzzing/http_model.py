@@ -12,6 +12,7 @@ WHOLE, PART, INVALID = "whole", "part", "invalid"
 REASONS = {
     200: b"OK",
     400: b"Bad Request",
+    403: b"Forbidden",
     404: b"Not Found",
     405: b"Method Not Allowed",
     409: b"Conflict",
@@ -23,9 +24,18 @@ REASONS = {
     501: b"Not Implemented",
 }
 REPLY = re.compile(
-    rb"HTTP/1\.1 (\d{3}) ([A-Za-z ]+)\r\n(?:Content-Type: ([a-z/-]+)\r\n)?(?:Allow: (GET|POST)\r\n)?"
+    rb"HTTP/1\.1 (\d{3}) ([A-Za-z ]+)\r\n(?:Content-Type: ([a-z0-9/=;. -]+)\r\n)?"
+    rb"(?:Content-Security-Policy: ([a-z;' -]+)\r\n)?(?:Allow: (GET|POST)\r\n)?"
     rb"Content-Length: (0|[1-9]\d*)\r\n(Connection: close\r\n)?\r\n"
 )
+# the pages of an operator's address, with the type of each, and what a browser may do with the one for people
+PAGES = {
+    b"/": b"text/html; charset=utf-8",
+    b"/healthz": b"text/plain; charset=utf-8",
+    b"/status": b"text/plain; charset=utf-8",
+    b"/metrics": b"text/plain; version=0.0.4; charset=utf-8",
+}
+POLICY = b"default-src 'none'; style-src 'unsafe-inline'"
 
 
 class Head:
@@ -110,22 +120,42 @@ def closes(head):
     return head.minor == 0 or b"close" in listed
 
 
+def is_from_browser(head):
+    """Whether a browser sends a message."""
+    return any(name in (b"origin", b"sec-fetch-site", b"sec-fetch-mode") for name, _ in head.fields)
+
+
+def is_for_another(head):
+    """Whether a message names another machine as its host."""
+    hosts = [value.split(b":")[0] for name, value in head.fields if name == b"host"]
+    return any(host.lower() != b"localhost" and not re.fullmatch(rb"[0-9.\[]*", host) for host in hosts)
+
+
 class Expected:
     """A reply that is due: its status, whether the connection ends after it, the body of the request if it is the desk's.
 
-    `package` is the size of the package and its bytes, which are `None` if the file isn't the declared one.
+    `package` is the size of the package and its bytes, which are `None` if the file isn't the declared one. `page` is the
+    type of a page.
     """
 
-    def __init__(self, status, is_last, body=None, package=None, allow=None):
-        self.status, self.is_last, self.body, self.package, self.allow = status, is_last, body, package, allow
+    def __init__(self, status, is_last, body=None, package=None, allow=None, page=None):
+        self.status, self.is_last, self.body, self.package, self.allow, self.page = status, is_last, body, package, allow, page
 
 
-def use_of(head, body, desk, packages):
+def use_of(head, body, desk, packages, pages):
     path = head.target.split(b"?")[0]
     if path == desk:
         if head.method != b"POST":
             return Expected(405, False, allow=b"POST")
+        if pages and is_from_browser(head):
+            return Expected(403, False)
         return Expected(None, False, body=body)
+    if path in pages:
+        if head.method != b"GET":
+            return Expected(405, False, allow=b"GET")
+        if is_for_another(head):
+            return Expected(403, False)
+        return Expected(200, False, page=pages[path])
     if path.startswith(b"/p/") and path[3:] in packages:
         if head.method != b"GET":
             return Expected(405, False, allow=b"GET")
@@ -133,8 +163,8 @@ def use_of(head, body, desk, packages):
     return Expected(404, False)
 
 
-def expected_replies(data, desk, packages):
-    """The replies to all that a connection sends before it ends its side."""
+def expected_replies(data, desk, packages, pages):
+    """The replies to all that a connection sends before it ends its side, by the pages of an operator or none."""
     replies, at = [], 0
     while len(replies) < MESSAGE_LIMIT and at < len(data):
         window = data[at : at + HEAD_LIMIT]
@@ -151,7 +181,7 @@ def expected_replies(data, desk, packages):
         at += head.length
         if len(data) - at < length:
             break
-        reply = use_of(head, data[at : at + length], desk, packages)
+        reply = use_of(head, data[at : at + length], desk, packages, pages)
         at += length
         reply.is_last = closes(head) or len(replies) + 1 == MESSAGE_LIMIT
         replies.append(reply)
@@ -168,7 +198,7 @@ def reply_fault(status, reason, kind, allow, length, is_last):
         return f"Allow with {status}"
     if (kind is not None) != (length > 0):
         return f"Content-Type with {length} bytes"
-    if status in (404, 405, 411, 413, 431, 500, 501) and length > 0:
+    if status in (403, 404, 405, 411, 413, 431, 500, 501) and length > 0:
         return f"a body with {status}"
     if status in (411, 413, 431, 500, 501) and not is_last:
         return f"{status} without Connection: close"

@@ -342,7 +342,10 @@ class Heads(Kind):
         if connection is None:
             return case.how["end"]
         is_operator = case.how["to"] == "operator"
-        expected = http_model.expected_replies(case.data, OPERATE if is_operator else DESK, {} if is_operator else self.packages)
+        if is_operator:
+            expected = http_model.expected_replies(case.data, OPERATE, {}, http_model.PAGES)
+        else:
+            expected = http_model.expected_replies(case.data, DESK, self.packages, {})
         statuses = []
         with connection:
             for wanted in expected:
@@ -353,6 +356,8 @@ class Heads(Kind):
                 self.check_head(wanted, reply)
                 if wanted.package:
                     self.check_package(wanted.package, reply)
+                elif wanted.page:
+                    self.check_page(wanted.page, reply)
                 elif wanted.status is None and is_operator:
                     self.check_script(wanted.body, reply)
                 elif wanted.status is None:
@@ -373,6 +378,11 @@ class Heads(Kind):
         size, content = package
         if (reply.kind, reply.length, reply.body) != (b"application/octet-stream", size, content or b""):
             raise Wrong(f"a package of {size} bytes: {reply.kind} {reply.length} {reply.body[:100]!r}")
+
+    def check_page(self, kind, reply):
+        policy = http_model.POLICY if kind.startswith(b"text/html") else None
+        if (reply.kind, reply.policy) != (kind, policy) or not reply.body.endswith(b"\n"):
+            raise Wrong(f"a page: {reply.kind} {reply.policy} {reply.body[:100]!r}")
 
     def check_desk(self, body, reply):
         fault, session, asks = json_model.read_request(body)

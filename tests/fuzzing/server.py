@@ -30,8 +30,9 @@ def free_port():
 class Reply:
     """A reply: its status, its body as far as it came, and whether it announces the end of the connection."""
 
-    def __init__(self, status, kind, allow, length, is_last):
-        self.status, self.kind, self.allow, self.length, self.is_last, self.body = status, kind, allow, length, is_last, b""
+    def __init__(self, status, kind, policy, allow, length, is_last):
+        self.status, self.kind, self.policy, self.allow = status, kind, policy, allow
+        self.length, self.is_last, self.body = length, is_last, b""
 
 
 class Connection:
@@ -88,8 +89,8 @@ class Connection:
         found = http_model.REPLY.match(self.kept)
         if not found:
             raise Wrong(f"no head of a reply: {self.kept[:200]!r}")
-        status, reason, kind, allow, length, last = found.groups()
-        reply = Reply(int(status), kind, allow, int(length), last is not None)
+        status, reason, kind, policy, allow, length, last = found.groups()
+        reply = Reply(int(status), kind, policy, allow, int(length), last is not None)
         fault = http_model.reply_fault(reply.status, reason, kind, allow, reply.length, reply.is_last)
         if fault:
             raise Wrong(fault)
@@ -120,7 +121,8 @@ class Served:
             self.log.unlink(missing_ok=True)
         self.port, self.operator = free_port(), free_port()
         words = [program, "serve", "--profile", str(PROFILE), "--packages", str(self.packages), "--workers", "2"]
-        words += ["--listen", f"127.0.0.1:{self.port}", "--operator", f"127.0.0.1:{self.operator}", "--timeout", str(TIMEOUT)]
+        words += ["--listen", f"127.0.0.1:{self.port}", "--operator", f"127.0.0.1:{self.operator}"]
+        words += ["--timeout", str(TIMEOUT), "--idle", str(TIMEOUT)]
         words += ["--sessions", str(sessions), "--edits", str(edits)]
         words += ["--log", str(self.log)] if log else []
         self.process = subprocess.Popen(words, stdout=subprocess.PIPE, stderr=subprocess.PIPE)
