@@ -1,5 +1,6 @@
 -- Pictures as SVG images: SVG 1.1, and the colours of a light and a dark page by CSS; this project's profile.
-use Rattle.std.specs.Prelude.{ℕ, ◌+◌, ◌-◌, ◌*◌, ◌/◌, ◌%◌, max, nat_lt, if◌then◌else◌, codes, decimal, List, ◌++◌, flat_map, fold, length}
+use Rattle.std.specs.Prelude.{ℕ, Bool, ◌+◌, ◌-◌, ◌*◌, ◌/◌, ◌%◌, max, nat_lt, if◌then◌else◌, codes, decimal, List, ◌++◌, flat_map, fold, length}
+use Rattle.std.specs.List.{list_any}
 use Rattle.catalogue.specs.declared.content.App.{App}
 use Rattle.reviews.specs.Names.{spelled_at}
 use Rattle.reviews.specs.Escaping.{escaped_string}
@@ -81,9 +82,16 @@ longer_jump longest arrow = max longest (span_of arrow)
 abbrev pub longest_jump : List Arrow → ℕ
 longest_jump arrows = fold longer_jump 0 arrows
 
--- how far the releases are from the left: enough for the curve of the longest jump
-abbrev pub left_of : ℕ → ℕ
-left_of jump = 150 + 9 * jump
+-- a package leads down
+abbrev pub is_downgrade : Arrow → Bool
+is_downgrade arrow = nat_lt arrow.to arrow.from
+
+abbrev pub has_downgrade : List Arrow → Bool
+has_downgrade arrows = list_any is_downgrade arrows
+
+-- how far the releases are from the left: enough for the curve of the longest jump, also of a downgrade if there is one
+abbrev pub left_of : ℕ → Bool → ℕ
+left_of jump down = 150 + 9 * jump + (if down then 90 else 0)
 
 -- how wide the image is: enough for the longest label, for the app's identifier, and for what the colours and shapes mean
 abbrev pub width_of : ℕ → ℕ → ℕ → ℕ
@@ -117,35 +125,36 @@ frame_of left width height name = head_string width height name ++ title_string 
 -- what is before the packages and releases
 unfoldable pub frame_string : App → Picture → List ℕ
 frame_string app picture =
-    frame_of (left_of (longest_jump picture.arrows))
-    (width_of (left_of (longest_jump picture.arrows)) (longest_label app picture.goals picture.nodes) (length app.id))
+    frame_of (left_of (longest_jump picture.arrows) (has_downgrade picture.arrows))
+    (width_of (left_of (longest_jump picture.arrows) (has_downgrade picture.arrows)) (longest_label app picture.goals picture.nodes) (length app.id))
     (height_of (length picture.nodes)) (escaped_string app.id)
 
 -- how far down a release is
 abbrev pub row_of : ℕ → ℕ
 row_of release = 132 + 44 * release
 
--- how far to the left a package's curve is drawn
+-- how far to the left a package's curve is drawn: downgrades to the left of all others and of their bytes
 abbrev pub bow_of : Arrow → ℕ
-bow_of arrow = 44 + 12 * span_of arrow
+bow_of arrow = (if is_downgrade arrow then 164 else 44) + 12 * span_of arrow
 
 -- how far to the left its bytes end: beside the middle of a downgrade, and beside the beginning of another curve
 abbrev pub bytes_end : Arrow → ℕ
-bytes_end arrow = if nat_lt arrow.to arrow.from then 42 + 9 * span_of arrow else 54 + 3 * span_of arrow
+bytes_end arrow = if is_downgrade arrow then 132 + 9 * span_of arrow else 54 + 3 * span_of arrow
 
 -- how far down its curve begins and ends: it leaves a release below its middle and reaches another above its middle, and the
 -- other way round for a downgrade
 abbrev pub start_of : Arrow → ℕ
-start_of arrow = if nat_lt arrow.to arrow.from then row_of arrow.from - 4 else row_of arrow.from + 4
+start_of arrow = if is_downgrade arrow then row_of arrow.from - 4 else row_of arrow.from + 4
 
 abbrev pub end_of : Arrow → ℕ
-end_of arrow = if nat_lt arrow.to arrow.from then row_of arrow.to + 4 else row_of arrow.to - 4
+end_of arrow = if is_downgrade arrow then row_of arrow.to + 4 else row_of arrow.to - 4
 
--- how far down they are written: beside the middle of a downgrade, and below the release that another package starts at; the
--- bytes of packages that start at one release and lead up to three releases further than one another have rows of their own
+-- how far down they are written: beside the middle of a downgrade, where those of the same middle have rows of their own, up
+-- to three; and below the release that another package starts at: there those of packages that start at one release and lead
+-- up to three releases further than one another have rows of their own
 abbrev pub bytes_row : Arrow → ℕ
 bytes_row arrow =
-    if nat_lt arrow.to arrow.from then (row_of arrow.from + row_of arrow.to) / 2 + 4
+    if is_downgrade arrow then (row_of arrow.from + row_of arrow.to) / 2 + 11 * (span_of arrow / 2 % 3) - 7
     else row_of arrow.from + 8 + 11 * (span_of arrow % 4)
 
 -- an element of what is said of a release or of a package, which a browser shows beside the pointer

@@ -1,7 +1,7 @@
 //! Where the parts of an SVG image are.
 
 ghost use Rattle.std.specs.Prelude.{◌≡◌};
-ghost use Rattle.reviews.specs.Svg.{bow_of, bytes_end, bytes_row, end_of, row_of, span_of, start_of};
+ghost use Rattle.reviews.specs.Svg.{bow_of, bytes_end, bytes_row, end_of, is_downgrade, row_of, span_of, start_of};
 
 use crate::pictures::arrows::Arrow;
 
@@ -10,6 +10,13 @@ pub(crate) fn row_of(release: usize) -> u128
     ensures { result ≡ row_of release }
 {
     132 + 44 * (release as u128)
+}
+
+/// Whether a package leads down.
+pub(crate) fn is_downgrade(arrow: &Arrow) -> bool
+    ensures { result ≡ is_downgrade arrow.now }
+{
+    arrow.to < arrow.from
 }
 
 /// How far apart two releases are.
@@ -23,19 +30,20 @@ pub(crate) fn span_of(arrow: &Arrow) -> usize
     }
 }
 
-/// How far to the left an arrow's curve is drawn.
+/// How far to the left an arrow's curve is drawn: downgrades to the left of all others and of their bytes.
 pub(crate) fn bow_of(arrow: &Arrow) -> u128
     ensures { result ≡ bow_of arrow.now }
 {
-    44 + 12 * (span_of(arrow) as u128)
+    let first = if is_downgrade(arrow) { 164 } else { 44 };
+    first + 12 * (span_of(arrow) as u128)
 }
 
 /// How far to the left an arrow's bytes end: beside the middle of a downgrade, and beside the beginning of another curve.
 pub(crate) fn bytes_end(arrow: &Arrow) -> u128
     ensures { result ≡ bytes_end arrow.now }
 {
-    if arrow.to < arrow.from {
-        42 + 9 * (span_of(arrow) as u128)
+    if is_downgrade(arrow) {
+        132 + 9 * (span_of(arrow) as u128)
     } else {
         54 + 3 * (span_of(arrow) as u128)
     }
@@ -45,7 +53,7 @@ pub(crate) fn bytes_end(arrow: &Arrow) -> u128
 pub(crate) fn start_of(arrow: &Arrow) -> u128
     ensures { result ≡ start_of arrow.now }
 {
-    if arrow.to < arrow.from {
+    if is_downgrade(arrow) {
         row_of(arrow.from) - 4
     } else {
         row_of(arrow.from) + 4
@@ -56,20 +64,20 @@ pub(crate) fn start_of(arrow: &Arrow) -> u128
 pub(crate) fn end_of(arrow: &Arrow) -> u128
     ensures { result ≡ end_of arrow.now }
 {
-    if arrow.to < arrow.from {
+    if is_downgrade(arrow) {
         row_of(arrow.to) + 4
     } else {
         row_of(arrow.to) - 4
     }
 }
 
-/// How far down a package's bytes are written: beside the middle of a downgrade, and below the release that another
-/// package starts at.
+/// How far down a package's bytes are written: beside the middle of a downgrade, where those of the same middle have rows of
+/// their own, and below the release that another package starts at.
 pub(crate) fn bytes_row(arrow: &Arrow) -> u128
     ensures { result ≡ bytes_row arrow.now }
 {
-    if arrow.to < arrow.from {
-        (row_of(arrow.from) + row_of(arrow.to)) / 2 + 4
+    if is_downgrade(arrow) {
+        (row_of(arrow.from) + row_of(arrow.to)) / 2 + 11 * (span_of(arrow) as u128 / 2 % 3) - 7
     } else {
         row_of(arrow.from) + 8 + 11 * (span_of(arrow) as u128 % 4)
     }

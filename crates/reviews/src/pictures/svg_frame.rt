@@ -1,14 +1,14 @@
 //! What is around the releases and packages of an SVG image.
 
 ghost use Rattle.std.specs.Prelude.{◌≡◌, ◌^◌, ◌<◌, IfOk, string_bytes};
-ghost use Rattle.reviews.specs.Svg.{frame_of, frame_string, head_string, heads_string, height_of, left_of, legend_string, longer_jump, longer_label, longest_jump, longest_label, style_string, title_string, width_of};
+ghost use Rattle.reviews.specs.Svg.{frame_of, frame_string, has_downgrade, head_string, heads_string, height_of, left_of, legend_string, longer_jump, longer_label, longest_jump, longest_label, style_string, title_string, width_of};
 
 use crate::markup::escaped;
 use crate::pictures::arrows::Arrow;
 use crate::pictures::labels::label_string;
 use crate::pictures::nodes::{Goal, Node};
 use crate::pictures::picture::Picture;
-use crate::pictures::spans::span_of;
+use crate::pictures::spans::{is_downgrade, span_of};
 use catalogue::App;
 use std::alloc::{AllocError, Global};
 
@@ -128,11 +128,19 @@ fn longest_jump(arrows: &[Arrow]) -> usize
     longest
 }
 
-// How far the releases are from the left.
-fn left_of(jump: usize) -> u128
-    ensures { result ≡ left_of jump }
+// Whether a package leads down.
+fn has_downgrade(arrows: &[Arrow]) -> bool
+    ensures { result ≡ has_downgrade arrows.now }
 {
-    150 + 9 * (jump as u128)
+    arrows.iter().any(is_downgrade)
+}
+
+// How far the releases are from the left.
+fn left_of(jump: usize, down: bool) -> u128
+    ensures { result ≡ left_of jump down }
+{
+    let outer = if down { 90 } else { 0 };
+    150 + 9 * (jump as u128) + outer
 }
 
 fn width_of(left: u128, longest: usize, name: usize) -> u128
@@ -200,7 +208,8 @@ pub(crate) fn frame_string(
     let nodes = picture.nodes.as_slice();
     let longest = longest_label(alloc, app, picture.goals.as_slice(), nodes)?;
     let name = escaped(alloc, app.id.as_str())?;
-    let left = left_of(longest_jump(picture.arrows.as_slice()));
+    let arrows = picture.arrows.as_slice();
+    let left = left_of(longest_jump(arrows), has_downgrade(arrows));
     let width = width_of(left, longest, app.id.as_str().len());
     frame_of(alloc, left, width, height_of(nodes.len()), name.as_str())
 }
