@@ -12,6 +12,7 @@ from fuzzing import corpus, http_model
 
 LIMIT = 20
 TIMEOUT = 1
+TRIES = 5
 PROFILE = corpus.FOLDER / "served.toml"
 LINE = re.compile(rb'127\.0\.0\.1 - - \[\d\d/[A-Z][a-z]{2}/\d{4}:\d\d:\d\d:\d\d \+0000\] "[ -~]*" \d{3} \d+ "[ -~]*" "[ -~]*"')
 
@@ -119,18 +120,29 @@ class Served:
         self.log = folder / "log" if log else None
         if log:
             self.log.unlink(missing_ok=True)
-        self.port, self.operator = free_port(), free_port()
         words = [program, "serve", "--profile", str(PROFILE), "--packages", str(self.packages), "--workers", "2"]
-        words += ["--listen", f"127.0.0.1:{self.port}", "--operator", f"127.0.0.1:{self.operator}"]
         words += ["--timeout", str(TIMEOUT), "--idle", str(TIMEOUT)]
         words += ["--sessions", str(sessions), "--edits", str(edits)]
         words += ["--log", str(self.log)] if log else []
+        for _ in range(TRIES):
+            said = self.start(words)
+            if said is None:
+                return
+            if b"omaha: net" not in said:
+                break
+        raise Wrong(f"the server didn't begin: {said[:300]!r}")
+
+    def start(self, words):
+        """Starts the server at free ports; what it printed in place of `ready`, as if another program took one meanwhile."""
+        self.port, self.operator = free_port(), free_port()
+        words = [*words, "--listen", f"127.0.0.1:{self.port}", "--operator", f"127.0.0.1:{self.operator}"]
         self.process = subprocess.Popen(words, stdout=subprocess.PIPE, stderr=subprocess.PIPE)
         ready, _, _ = select.select([self.process.stdout], [], [], LIMIT)
         line = self.process.stdout.readline() if ready else b""
-        if line != b"ready\n":
-            self.process.kill()
-            raise Wrong(f"the server printed {line!r} and {self.process.communicate()[1][:300]!r}")
+        if line == b"ready\n":
+            return None
+        self.process.kill()
+        return line + self.process.communicate()[1]
 
     def connect(self):
         self.sessions -= 1
