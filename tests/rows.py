@@ -83,6 +83,10 @@ def read_rows(path):
             steps[-1].below.append(("[", line[1:-1]))
         elif line and not line.startswith("#"):
             sys.exit(f"rows: {place}: no line of a row: {line}")
+    for row in rows:
+        for step in row.steps:
+            if step.lines("!") and not step.lines("["):
+                sys.exit(f"rows: {row.place}: {step.words}: lines of standard error, and no exit status")
     return rows, before, files
 
 
