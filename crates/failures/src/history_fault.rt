@@ -57,21 +57,6 @@ fn cause_string(cause: Cause) -> &'static str
     }
 }
 
-// Why a history can't be opened.
-fn open_string(fault: &OpenFault) -> &'static str
-    ensures { result.now ≡ history_fault_string (history.Open fault.now) }
-{
-    match fault {
-        OpenFault::Foreign => "not a history",
-        OpenFault::Busy => "in use by another program",
-        OpenFault::Unopened => "cannot be opened",
-        OpenFault::Parted => {
-            "has a log, but its file is missing or empty: put the file back, or move the log away"
-        }
-        OpenFault::Failed(cause) => cause_string(*cause),
-    }
-}
-
 // Why a record can't be kept.
 fn append_string(fault: &AppendFault) -> &'static str
     ensures { result.now ≡ history_fault_string (history.Append fault.now) }
@@ -89,7 +74,19 @@ impl fmt::Display for HistoryFault {
 
     fn fmt<W: fmt::Write>(&self, f: &mut fmt::Formatter<W>) -> fmt::Result {
         match self {
-            HistoryFault::Open(fault) => f.write_str(open_string(fault)),
+            HistoryFault::Open(OpenFault::Foreign) => f.write_str("not a history"),
+            HistoryFault::Open(OpenFault::Busy) => f.write_str("in use by another program"),
+            HistoryFault::Open(OpenFault::Unopened) => f.write_str("cannot be opened"),
+            HistoryFault::Open(OpenFault::Parted) => f.write_str(
+                "has a log, but its file is missing or empty: put the file back, or move the log away",
+            ),
+            HistoryFault::Open(OpenFault::Bare) => f.write_str(
+                "has no table, as without its log: put the log back, or remove the file to begin anew",
+            ),
+            HistoryFault::Open(OpenFault::Damaged(number)) => {
+                write!(f, "record {number}: damaged or missing")
+            }
+            HistoryFault::Open(OpenFault::Failed(cause)) => f.write_str(cause_string(*cause)),
             HistoryFault::Append(fault) => f.write_str(append_string(fault)),
             HistoryFault::Record(number, fault) => write!(f, "record {number}: {fault}"),
             HistoryFault::OtherProfile => f.write_str(

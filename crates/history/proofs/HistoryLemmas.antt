@@ -1,14 +1,17 @@
 -- What statements make of a history, and what a crash leaves of it.
-use Rattle.std.proofs.Common.{◌≡◌, ◌∙◌, ◌+◌, ◌++◌, List, [], ◌∷◌, ap, arith, false, inl, inr, length, subst, sym, ℕ}
+use Rattle.std.proofs.Common.{◌≡◌, ◌∙◌, ◌+◌, ◌++◌, List, [], ◌∷◌, ap, arith, false, inl, inr, length, map, subst, sym, ℕ}
 use Rattle.std.proofs.lemmas.List.Sums.{sum_by-append}
+use Rattle.std.specs.List.Sorted.{IsPermutation}
 use Rattle.kept_records.specs.Keeping.{bytes_in}
 use Rattle.kept_records.specs.declared.record.Record.{Record}
 use Rattle.sqlite.specs.Effect.{Database}
-use Rattle.sqlite.specs.State.{HasCleanDisk, State}
+use Rattle.sqlite.specs.Order.{Row}
+use Rattle.sqlite.specs.State.{HasCleanDisk, IsUnchanged, Opens, Shows, State}
 use Rattle.sqlite.specs.Tree.{Trees}
-use Rattle.history.proofs.RowLemmas.{Holds-append}
-use Rattle.history.specs.Holdings.{CrashLeaves, Holds, IsHistory, Keeps, Leads, LeavesEither}
-use Rattle.history.specs.Tables.{history_schema, stored_row}
+use Rattle.history.proofs.RowLemmas.{Holds-append, Holds-read}
+use Rattle.history.specs.Holdings.{CrashLeaves, Holds, IsHistory, IsInside, Keeps, Leads, LeavesEither}
+use Rattle.history.specs.Openings.{IsRead}
+use Rattle.history.specs.Tables.{history_schema, shown_row, stored_row}
 
 -- an open store leaves its last commit alone
 abbrev pub IsSettled : State → Type 0
@@ -87,3 +90,40 @@ append_leaves old new first len kept last clean counted is settled leaves =
 
 pub bytes_in-append : (kept : List Record) (last : Record) → bytes_in (kept ++ last ∷ []) ≡ bytes_in kept + length last.bytes
 bytes_in-append kept last = sum_by-append (λ (it : Record). length it.bytes) kept (last ∷ []) ∙ omega arith
+
+-- a crash within the checksum after an append
+pub sealed_leaves : (old mid new : State) (first len : ℕ) (kept : List Record) (last : Record) (P : Trees → Type 0) → HasCleanDisk new → len ≡ length kept
+    → IsHistory old first kept → IsSettled old
+    → CrashLeaves old mid (λ db. (old.in_transaction ≡ false) × (db 0 ≡ old.now.trees 0 ++ stored_row (first + len) last ∷ []))
+    → CrashLeaves mid new P → ((db : Trees) → P db → Holds db first (kept ++ last ∷ []))
+    → LeavesEither new first kept first (kept ++ last ∷ [])
+sealed_leaves old mid new first len kept last P clean counted is settled appended sealed holds =
+    leaves_either old new first kept first (kept ++ last ∷ []) (λ db. Holds db first (kept ++ last ∷ [])) clean is settled (λ db made. made)
+    (CrashLeaves-then old mid new _ P _ appended sealed
+    (λ early db made. Holds-append old.now.trees db first kept last is.holds
+    (made.1 ∙ ap (λ n. old.now.trees 0 ++ stored_row (first + n) last ∷ []) counted))
+    (λ early db made. holds db made))
+
+-- rows that were listed by an open connection are those of a history
+pub history_read : (old new : State) (rows : List Row) (first : ℕ) (kept : List Record) (sum : List ℕ) → Opens old → old.now.schema ≡ history_schema
+    → IsUnchanged old new → IsPermutation (map shown_row (old.now.trees 0)) rows → IsRead rows first kept sum → IsHistory new first kept
+history_read old new rows first kept sum opens ours same listed read =
+    let shown = same.0 in
+    record {
+      is_open = shown.is_open;
+      schema = ap (λ (it : Database). it.schema) shown.now_is ∙ ours;
+      holds = subst (λ (it : Database). Holds it.trees first kept) (sym shown.now_is) (Holds-read old.now.trees rows first kept sum listed read);
+      committed = shown.committed_is ∙ sym opens.clean ∙ sym shown.now_is;
+      autocommit = shown.mode ∙ opens.autocommit;
+    }
+
+-- what a transaction left is committed
+pub history_committed : (old new : State) (first : ℕ) (kept : List Record) → IsInside old first kept → Shows old new old.now old.now false
+    → IsHistory new first kept
+history_committed old new first kept is shown = record {
+  is_open = shown.is_open;
+  schema = ap (λ (it : Database). it.schema) shown.now_is ∙ is.schema;
+  holds = subst (λ (it : Database). Holds it.trees first kept) (sym shown.now_is) is.holds;
+  committed = shown.committed_is ∙ sym shown.now_is;
+  autocommit = shown.mode;
+}

@@ -12,7 +12,7 @@ use Rattle.sqlite.specs.Order.{Row, column}
 use Rattle.sqlite.specs.Tree.{Trees}
 use Rattle.sqlite.specs.declared.types.Value.TheVariants.{Blob, Int}
 use Rattle.history.proofs.RowLemmas.{length-entries_from}
-use Rattle.history.specs.Holdings.{Holds}
+use Rattle.history.specs.Holdings.{Holds, entries_in}
 use Rattle.history.specs.Tables.{entries_from, entry_of, shown_row}
 
 same_kind : (a b : Kind) → number_of a ≡ number_of b → a ≡ b
@@ -109,8 +109,8 @@ first_within first other (one ∷ more) others some all =
 pub same_records : (trees : Trees) (first other : ℕ) (kept others : List Record) → Holds trees first kept → Holds trees other others
     → (kept ≡ others) × (kept ≢ [] → first ≡ other)
 same_records trees first other kept others holds also =
-    let shown = map shown_row (trees 0) in
-    let there = IsPermutation-trans (entries_from first kept) shown (entries_from other others) (IsPermutation-sym shown (entries_from first kept) holds) also in
+    let shown = entries_in (map shown_row (trees 0)) in
+    let there = IsPermutation-trans (entries_from first kept) shown (entries_from other others) (IsPermutation-sym shown (entries_from first kept) holds.records) also.records in
     let back = IsPermutation-sym (entries_from first kept) (entries_from other others) there in
     let len : length kept ≡ length others =
     sym (length-entries_from first kept) ∙ sym (length_permutation (entries_from first kept) (entries_from other others) there) ∙ length-entries_from other others in

@@ -3,3 +3,5 @@ mod StatementLemmas
 mod RowLemmas
 mod HistoryLemmas
 mod LawLemmas
+mod ChecksumLemmas
+mod PutLemmas

@@ -1,12 +1,9 @@
 -- What each statement does to the database, and what it leaves if it fails.
-use Rattle.std.proofs.Common.{◌≡◌, ◌⊎◌, ◌∙◌, ◌++◌, Bool, Err, List, None, Ok, Option, Result, [], ◌∷◌, ap, append-nil, arith, cond, false, inl, inr, is_ok, map, pos, refl, subst, subst₂, sym, true, ℕ, ℤ, flat_map}
+use Rattle.std.proofs.Common.{◌≡◌, ◌⊎◌, ◌∙◌, Bool, Err, List, None, Ok, Option, Result, [], ◌∷◌, ap, append-nil, arith, cond, false, inl, inr, is_ok, map, pos, refl, subst, subst₂, sym, true, ℕ, ℤ, flat_map}
 use Rattle.std.proofs.lemmas.Bool.{cases_Bool}
 use Rattle.std.proofs.lemmas.List.Sorted.{IsPermutation-map}
 use Rattle.std.specs.List.Sorted.{IsPermutation}
-use Rattle.std.specs.List.{AllByRecursion}
 use Rattle.std.specs.Prelude.{OnErr, OnOk}
-use Rattle.kept_records.specs.Keeping.{number_of}
-use Rattle.kept_records.specs.declared.record.Record.{Record}
 use Rattle.sqlite.proofs.Callers.{IsPlain, command_of, one_step, reads_as, runs_as, statement_of}
 use Rattle.sqlite.specs.Cast.{cast}
 use Rattle.sqlite.specs.Change.{created, next_tree}
@@ -34,10 +31,9 @@ use Rattle.sqlite.specs.declared.types.Value.{Value}
 use Rattle.sqlite_schema.specs.declared.command.Command.{Command}
 use Rattle.sqlite_sql.specs.Query.{IsAnswer, Output, output}
 use Rattle.sqlite_trees.specs.Tree.{put_row}
-use Rattle.history.proofs.RowLemmas.{IsBelow, put_row-last}
 use Rattle.history.proofs.Texts.{begin_means, begin_plain, begin_text, commit_means, commit_plain, commit_text, create_defines, create_means, create_plain, create_statement, create_text, drop_means, drop_plain, drop_text, insert_means, insert_plain, insert_text, inserted, list_means, list_plain, list_text, list_unlisted, listing}
 use Rattle.history.specs.Holdings.{CrashLeaves, IsAsBefore, Leads}
-use Rattle.history.specs.Tables.{empty_schema, history_schema, record_table, shown_row, stored_row}
+use Rattle.history.specs.Tables.{empty_schema, history_schema, record_table, shown_row, stored_cells}
 
 -- a part of a statement that came to a value went on to the next part
 pub went_on : {A B R : Type 0} {value : A} {Stops : B → Type 0}
@@ -151,8 +147,8 @@ abbrev insert_command : Command
 insert_command = Insert 0 (Values inserted 4)
 
 -- the parameters of an insert
-abbrev pub given_of : ℕ → Record → Row
-given_of number kept = Int (pos number) ∷ Int (pos (number_of kept.kind)) ∷ Blob kept.bytes ∷ []
+abbrev pub given_of : ℤ → ℕ → List ℕ → Row
+given_of key kind bytes = Int key ∷ Int (pos kind) ∷ Blob bytes ∷ []
 
 cond-same : (b : Bool) (value : Value) → cond b value value ≡ value
 cond-same true value = refl
@@ -166,14 +162,13 @@ cast-Null : cast Integer Null ≡ Null
 unfolding unary
 cast-Null = cond-same _ Null
 
-insert_makes : (limit : Option ℕ) (mode : Mode) (db after : Database) (text : List ℕ) (tally : Tally) (number : ℕ) (kept : Record)
-    → db.schema ≡ history_schema → AllByRecursion (IsBelow number) (db.trees 0)
-    → Does limit mode (given_of number kept) db text None insert_command (Ok (tally, after))
-    → (after.schema ≡ history_schema) × (after.trees 0 ≡ db.trees 0 ++ stored_row number kept ∷ [])
-insert_makes limit mode db after text tally number kept has below does =
+insert_makes : (limit : Option ℕ) (mode : Mode) (db after : Database) (text : List ℕ) (tally : Tally) (key : ℤ) (kind : ℕ) (bytes : List ℕ)
+    → db.schema ≡ history_schema → Does limit mode (given_of key kind bytes) db text None insert_command (Ok (tally, after))
+    → (after.schema ≡ history_schema) × (after.trees 0 ≡ put_row (stored_cells key kind bytes) (db.trees 0))
+insert_makes limit mode db after text tally key kind bytes has does =
     let old = db.trees in
-    let row = stored_row number kept in
-    let done = went_on (subst (λ s. Does limit mode (given_of number kept) (record db { schema = s }) text None insert_command (Ok (tally, after))) has does) in
+    let row = stored_cells key kind bytes in
+    let done = went_on (subst (λ s. Does limit mode (given_of key kind bytes) (record db { schema = s }) text None insert_command (Ok (tally, after))) has does) in
     let now = database_of (went_on (went_on done.2).2).2 in
     let sourced = went_on done.1 in
     let wrote = went_on (went_on sourced.2).2 in
@@ -182,34 +177,34 @@ insert_makes limit mode db after text tally number kept has below does =
     let trees : done.0.trees ≡ wrote.0 = ap (λ (it : Written). it.trees) (value_of_Ok counted.2) ∙ value_of_Ok counted.1 in
     let applied = (one_step history_schema _ old wrote.0 edit refl wrote.1).rows in
     let put : edited old edit ≡ put_row row (old 0) =
-    ap (λ rows. edited old (edit_of old record_table [] Chosen 0 rows)) sourced.1.1 ∙ rw (cast-Int (pos number), cast-Null, cast-Int (pos (number_of kept.kind))) in (
+    ap (λ rows. edited old (edit_of old record_table [] Chosen 0 rows)) sourced.1.1 ∙ rw (cast-Int key, cast-Null, cast-Int (pos kind)) in (
       ap (λ (it : Database). it.schema) now,
-      ap (λ (it : Database). it.trees 0) now ∙ ap (λ (it : Trees). it 0) trees ∙ applied ∙ put ∙ put_row-last (old 0) row number below refl,
+      ap (λ (it : Database). it.trees 0) now ∙ ap (λ (it : Trees). it 0) trees ∙ applied ∙ put,
     )
 
-pub inserted_by : (old new : State) (number : ℕ) (kept : Record) (result : Result ℕ Error) → old.now.schema ≡ history_schema
-    → AllByRecursion (IsBelow number) (old.now.trees 0) → Executes insert_text (given_of number kept) old new result
-    → OnOk result (Leads old new history_schema × (new.now.trees 0 ≡ old.now.trees 0 ++ stored_row number kept ∷ []))
-inserted_by old new number kept (Err e) has below executes = tt
-inserted_by old new number kept (Ok count) has below executes =
-    let ran = runs_as insert_text (given_of number kept) old new history_schema has insert_command insert_means insert_plain count executes in
-    let made = insert_makes old.step_limit (mode_of old) old.now new.now (statement_of insert_text (understood history_schema insert_text)) ran.tally number kept has below ran.changed in
+pub inserted_by : (old new : State) (key : ℤ) (kind : ℕ) (bytes : List ℕ) (result : Result ℕ Error) → old.now.schema ≡ history_schema
+    → Executes insert_text (given_of key kind bytes) old new result
+    → OnOk result (Leads old new history_schema × (new.now.trees 0 ≡ put_row (stored_cells key kind bytes) (old.now.trees 0)))
+inserted_by old new key kind bytes (Err e) has executes = tt
+inserted_by old new key kind bytes (Ok count) has executes =
+    let ran = runs_as insert_text (given_of key kind bytes) old new history_schema has insert_command insert_means insert_plain count executes in
+    let made = insert_makes old.step_limit (mode_of old) old.now new.now (statement_of insert_text (understood history_schema insert_text)) ran.tally key kind bytes has ran.changed in
     (record { schema = made.0; shown = ran.shown }, made.1)
 
-pub insert_commits : (old : State) (number : ℕ) (kept : Record) (db : Trees) → old.now.schema ≡ history_schema
-    → AllByRecursion (IsBelow number) (old.now.trees 0) → CommitsBy insert_text (given_of number kept) old db
-    → (old.in_transaction ≡ false) × (db 0 ≡ old.now.trees 0 ++ stored_row number kept ∷ [])
-insert_commits old number kept db has below commits =
-    written (commits_as insert_text (given_of number kept) old history_schema insert_command db has insert_means insert_plain commits)
+pub insert_commits : (old : State) (key : ℤ) (kind : ℕ) (bytes : List ℕ) (db : Trees) → old.now.schema ≡ history_schema
+    → CommitsBy insert_text (given_of key kind bytes) old db
+    → (old.in_transaction ≡ false) × (db 0 ≡ put_row (stored_cells key kind bytes) (old.now.trees 0))
+insert_commits old key kind bytes db has commits =
+    written (commits_as insert_text (given_of key kind bytes) old history_schema insert_command db has insert_means insert_plain commits)
   where
-    written : MayCommit old None insert_command (statement_of insert_text (understood history_schema insert_text)) (given_of number kept) db
-        → (old.in_transaction ≡ false) × (db 0 ≡ old.now.trees 0 ++ stored_row number kept ∷ [])
+    written : MayCommit old None insert_command (statement_of insert_text (understood history_schema insert_text)) (given_of key kind bytes) db
+        → (old.in_transaction ≡ false) × (db 0 ≡ put_row (stored_cells key kind bytes) (old.now.trees 0))
     written (inl (inl commit, same)) = absurd cc
     written (inl (inr release, same)) = absurd (let is = release.2 in cc)
     written (inr wrote) = (
       wrote.0,
       ap (λ (trees : Trees). trees 0) wrote.5
-          ∙ (insert_makes old.step_limit (mode_of old) old.now wrote.2 (statement_of insert_text (understood history_schema insert_text)) wrote.1 number kept has below wrote.3).1,
+          ∙ (insert_makes old.step_limit (mode_of old) old.now wrote.2 (statement_of insert_text (understood history_schema insert_text)) wrote.1 key kind bytes has wrote.3).1,
     )
 
 -- BEGIN and COMMIT

@@ -1,16 +1,31 @@
 -- The records that a database holds, now, at the last commit and after a crash; this project's profile.
-use Rattle.std.specs.Prelude.{◌≡◌, ◌⊎◌, ◌+◌, ℕ, List, length, false, true, if◌then◌else◌, map, IsTrue}
+use Rattle.std.specs.Prelude.{◌≡◌, ◌⊎◌, ◌+◌, All, ℕ, List, Some, length, false, filter, true, if◌then◌else◌, map, not, slice_get, IsTrue}
 use Rattle.std.specs.List.Sorted.{IsPermutation}
+use Rattle.kept_records.specs.Checksums.{checksums_from, no_checksum}
 use Rattle.kept_records.specs.declared.record.Record.{Record}
+use Rattle.sqlite.specs.Order.{Row}
 use Rattle.sqlite.specs.Schema.{Schema}
 use Rattle.sqlite.specs.State.{HasCleanDisk, IsRolledBack, IsUnchanged, Shows, State}
 use Rattle.sqlite.specs.Tree.{Trees}
-use Rattle.history.specs.Tables.{empty_schema, entries_from, history_schema, shown_row}
+use Rattle.history.specs.Tables.{checksum_row, empty_schema, entries_from, history_schema, is_checksum, shown_row}
+
+-- the rows that are no checksums
+abbrev pub entries_in : List Row → List Row
+entries_in rows = filter (λ row. not (is_checksum row)) rows
+
+-- the rows that are checksums
+abbrev pub checksums_in : List Row → List Row
+checksums_in rows = filter is_checksum rows
+
+-- the row has one of these checksums, of records that are numbered from this number on
+abbrev pub HasChecksum : ℕ → List (List ℕ) → Row → Type 0
+HasChecksum first sums row = (at : ℕ) × (sum : List ℕ) × (slice_get sums at ≡ Some sum) × (row ≡ checksum_row (first + at) sum)
 
 -- rule: Records of a database
--- the table's rows are these records, numbered in order from this number on
-abbrev pub Holds : Trees → ℕ → List Record → Type 0
-Holds trees first kept = IsPermutation (map shown_row (trees 0)) (entries_from first kept)
+-- the table's rows are these records, numbered in order from this number on, and checksums of some of them
+pub record Holds (trees : Trees) (first : ℕ) (kept : List Record) : Type 0 where
+  pub records : IsPermutation (entries_in (map shown_row (trees 0))) (entries_from first kept)
+  pub checksums : All (HasChecksum first (checksums_from first no_checksum kept)) (checksums_in (map shown_row (trees 0)))
 
 -- rule: Kept records
 -- the last commit has these records, and so has whatever a crash leaves

@@ -1,6 +1,7 @@
 -- What contracts see of a history; this project's profile.
 use Rattle.std.specs.Prelude.{◌≡◌, ◌⊎◌, ◌≤◌, ◌^◌, ℕ, Bool, IsTrue, List, false, length, refl}
 use Rattle.std.specs.Coded.{Coded, code_by, coded×, coded_bool, coded_list, coded_ℕ}
+use Rattle.kept_records.specs.Checksums.{checksum_from, no_checksum}
 use Rattle.kept_records.specs.Keeping.{bytes_in}
 use Rattle.kept_records.specs.contracts.record.Record as kept_record
 use Rattle.kept_records.specs.declared.fault.AppendFault.{AppendFault}
@@ -45,8 +46,9 @@ pub record IsKnown {S : Type 0} (log : Log S) (records : List Record) (most : �
   pub live : IsTrue log.is_live
 
 -- what is so of the fields of a history
-pub record IsLog {S : Type 0} (g : Ghosts S) (conn : Held S) (first len size : ℕ) (kept : List Record) (is_live : Bool) : Type 0 where
+pub record IsLog {S : Type 0} (g : Ghosts S) (conn : Held S) (first len size : ℕ) (sum : List ℕ) (kept : List Record) (is_live : Bool) : Type 0 where
   pub numbered : (1 ≤ first) × (first ≤ 2 ^ 53)
+  pub summed : sum ≡ checksum_from first no_checksum kept
   pub counted : len ≡ length kept
   pub bounded : len ≤ 65536
   pub sized : size ≡ bytes_in kept

@@ -1,5 +1,6 @@
 -- What an open finds; this project's profile.
-use Rattle.std.specs.Prelude.{◌≡◌, ◌⊎◌, ◌+◌, ◌≤◌, ◌^◌, ℕ, List, [], length}
+use Rattle.std.specs.Prelude.{◌≡◌, ◌⊎◌, ◌+◌, ◌++◌, ◌≤◌, ◌^◌, All, ℕ, List, [], length}
+use Rattle.kept_records.specs.Checksums.{checksum_from, checksums_from, no_checksum}
 use Rattle.kept_records.specs.declared.record.Record.{Record}
 use Rattle.sqlite.specs.Files.{Finds, file_state, over_files}
 use Rattle.sqlite.specs.Held.{Held, state}
@@ -10,15 +11,18 @@ use Rattle.sqlite.specs.declared.FileStore.{FileStore}
 use Rattle.sqlite_disk.specs.declared.Disk.{Ghosts}
 use Rattle.sqlite_disk.specs.declared.Files.{Files}
 use Rattle.sqlite_trees.specs.declared.store.Store.{Ghosts as Stored}
-use Rattle.history.specs.Holdings.{Holds, Keeps}
+use Rattle.history.specs.Holdings.{HasChecksum, Holds, Keeps}
 use Rattle.history.specs.Logs.{Log}
 use Rattle.history.specs.Tables.{empty_schema, entries_from}
 
--- rows that were listed are these records, from this number on
-pub record IsRead (rows : List Row) (first : ℕ) (kept : List Record) : Type 0 where
+-- rows that were listed are checksums of some of these records, and then the records, from this number on
+pub record IsRead (rows : List Row) (first : ℕ) (kept : List Record) (sum : List ℕ) : Type 0 where
   pub numbered : (1 ≤ first) × (first ≤ 2 ^ 53)
   pub most : length kept ≤ 65536
-  pub is : rows ≡ entries_from first kept
+  pub sums : List Row
+  pub checked : All (HasChecksum first (checksums_from first no_checksum kept)) sums
+  pub is : rows ≡ sums ++ entries_from first kept
+  pub last : sum ≡ checksum_from first no_checksum kept
 
 -- the records are those of the last commit, or there was no table and there are none
 abbrev pub FindsOrMakes : {S : Type 0} → Stored S → Held S → Log S → Type 0

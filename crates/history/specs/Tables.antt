@@ -1,5 +1,5 @@
 -- The table of records, as SQLite's schema has it, and its rows; this project's profile.
-use Rattle.std.specs.Prelude.{◌+◌, ◌∷◌, [], Bool, true, false, List, Some, codes, pos, ℕ}
+use Rattle.std.specs.Prelude.{◌+◌, ◌∷◌, [], Bool, true, false, List, Some, codes, neg_ℤ, negsuc, pos, ℕ, ℤ}
 use Rattle.kept_records.specs.Keeping.{number_of}
 use Rattle.kept_records.specs.declared.record.Record.{Record}
 use Rattle.sqlite.specs.Collation.TheVariants.{Binary}
@@ -8,6 +8,7 @@ use Rattle.sqlite.specs.Order.{Row, column}
 use Rattle.sqlite.specs.Schema.{Schema}
 use Rattle.sqlite.specs.Table.{Table}
 use Rattle.sqlite.specs.declared.types.Value.TheVariants as value
+use Rattle.sqlite.specs.declared.types.Value.{Value}
 use Rattle.sqlite_schema.specs.declared.schema.Column.{Column}
 use Rattle.sqlite_schema.specs.declared.schema.Kind.{Kind}
 
@@ -77,10 +78,30 @@ abbrev pub entries_from : ℕ → List Record → List Row
 entries_from first [] = []
 entries_from first (kept ∷ more) = entry_of first kept ∷ entries_from (first + 1) more
 
--- a record with its number, as the table stores it: a key that is a rowid is stored before the columns alone
+-- a key, a kind and bytes, as the table stores them: a key that is a rowid is stored before the columns alone
+abbrev pub stored_cells : ℤ → ℕ → List ℕ → Row
+stored_cells key kind bytes = value.Int key ∷ value.Null ∷ value.Int (pos kind) ∷ value.Blob bytes ∷ []
+
+-- a record with its number, as the table stores it
 abbrev pub stored_row : ℕ → Record → Row
-stored_row number kept =
-    value.Int (pos number) ∷ value.Null ∷ value.Int (pos (number_of kept.kind)) ∷ value.Blob kept.bytes ∷ []
+stored_row number kept = stored_cells (pos number) (number_of kept.kind) kept.bytes
+
+-- the key of a record's checksum: its number below 0
+abbrev pub checksum_key : ℕ → ℤ
+checksum_key number = neg_ℤ (pos number)
+
+-- the checksum of the record of a number, as a query shows it, with no kind
+abbrev pub checksum_row : ℕ → List ℕ → Row
+checksum_row number sum = value.Int (checksum_key number) ∷ value.Int (pos 0) ∷ value.Blob sum ∷ []
+
+-- the value is a number below 0
+abbrev pub is_negative : Value → Bool
+is_negative (value.Int (negsuc below)) = true
+is_negative other = false
+
+-- the row is that of a checksum, and of no record: its key is below 0
+abbrev pub is_checksum : Row → Bool
+is_checksum cells = is_negative (column cells 0)
 
 -- the number, the kind and the bytes of a stored row
 abbrev pub shown_row : Row → Row

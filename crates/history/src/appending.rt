@@ -16,8 +16,11 @@ use crate::causes::cause_of;
 use crate::history::History;
 use crate::marks::note;
 use crate::refilling::replace;
+use crate::sealing::seal;
 use crate::statements::{insert, probe};
-use kept_records::{AppendFault, Cause, Kind, MAX_RECORDS, ReadFault, Record, Records};
+use kept_records::{
+    AppendFault, Cause, Kind, MAX_RECORDS, NO_CHECKSUM, ReadFault, Record, Records, checksum_of,
+};
 use sqlite::Alter;
 use std::alloc::Global;
 use streams::Trace;
@@ -101,12 +104,23 @@ impl<S: Alter> Records for History<S> {
         if !self.has_room(bytes.len()) {
             return Err(AppendFault::Full);
         }
-        match insert(&mut self.conn, self.first + self.len as u64, kind, bytes) {
+        let number = self.first + self.len as u64;
+        match insert(&mut self.conn, number, kind, bytes) {
             Ok(_) => {
-                self.len += 1;
-                self.size += bytes.len() as u64;
-                note(&mut self.marks, kind, bytes);
-                Ok(())
+                let sum = checksum_of(number, kind, bytes, &self.sum);
+                match seal(&mut self.conn, number, &sum) {
+                    Ok(()) => {
+                        self.len += 1;
+                        self.size += bytes.len() as u64;
+                        self.sum = sum;
+                        note(&mut self.marks, kind, bytes);
+                        Ok(())
+                    }
+                    Err(error) => {
+                        self.is_live = false;
+                        Err(AppendFault::Unknown(cause_of(error)))
+                    }
+                }
             }
             Err(error) => {
                 self.is_live = probe(&mut self.conn);
@@ -168,19 +182,21 @@ impl<S: Alter> Records for History<S> {
         if bytes.len() as u64 > self.limit {
             return Err(AppendFault::Full);
         }
-        match replace(&mut self.conn, number, bytes) {
+        let sum = checksum_of(number, Kind::Profile, bytes, &NO_CHECKSUM);
+        match replace(&mut self.conn, number, bytes, &sum) {
             Ok(()) => {
                 let mut marks = Trace::new();
                 note(&mut marks, Kind::Profile, bytes);
                 self.first = number;
                 self.len = 1;
                 self.size = bytes.len() as u64;
+                self.sum = sum;
                 self.marks = marks;
                 Ok(())
             }
-            Err(error) => {
+            Err(failed) => {
                 self.is_live = false;
-                Err(AppendFault::Unknown(cause_of(error)))
+                Err(AppendFault::Unknown(cause_of(failed)))
             }
         }
     }

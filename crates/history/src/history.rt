@@ -20,6 +20,7 @@ pub struct History<S: Alter> {
     pub(crate) first: u64,
     pub(crate) len: u32,
     pub(crate) size: u64,
+    pub(crate) sum: [u8; 32],
     pub(crate) limit: u64,
     pub(crate) is_live: bool,
     pub(crate) marks: Trace<Mark>,
@@ -33,6 +34,7 @@ impl<S: Alter + Drop> Drop for History<S> {
             first: _,
             len: _,
             size: _,
+            sum: _,
             limit: _,
             is_live: _,
             marks: _,
@@ -49,7 +51,7 @@ impl<S: Alter> Model for History<S> {
 
     ghost view = { λ h. record { conn = h.conn; first = h.first; kept = h.marks; limit = h.limit; is_live = h.is_live } };
 
-    ghost invariant = { λ h. IsLog S.Store h.conn h.first h.len h.size h.marks h.is_live };
+    ghost invariant = { λ h. IsLog S.Store h.conn h.first h.len h.size h.sum h.marks h.is_live };
 }
 
 impl<S: Alter + Drop> History<S> {
@@ -62,6 +64,7 @@ impl<S: Alter + Drop> History<S> {
             first: _,
             len: _,
             size: _,
+            sum: _,
             limit: _,
             is_live: _,
             marks: _,
@@ -85,6 +88,7 @@ impl<D: Disk + Drop> History<FileStore<D>> {
             first: _,
             len: _,
             size: _,
+            sum: _,
             limit: _,
             is_live: _,
             marks: _,

@@ -13,6 +13,7 @@
 
 mod appending;
 mod causes;
+mod checksums;
 mod history;
 pub mod laws;
 mod marks;
@@ -21,6 +22,7 @@ mod parting;
 mod reading;
 mod refilling;
 mod schema;
+mod sealing;
 mod statements;
 mod stores;
 

@@ -1,48 +1,81 @@
 // The making and the opening of a history.
 
-ghost use Rattle.std.specs.Prelude.{◌≡◌, ◌≢◌, ◌≤◌, ◌^◌, ◌⊎◌, [], false, true, IfErr, IfOk, Ok, length, IsTrue};
+ghost use Rattle.std.specs.Prelude.{◌≡◌, ◌≢◌, ◌+◌, ◌<◌, ◌≤◌, ◌^◌, ◌⊎◌, [], All, false, true, IfErr, IfOk, Ok, length, IsTrue};
+ghost use Rattle.kept_records.specs.Checksums.{checksum_from, checksums_from, no_checksum};
 ghost use Rattle.kept_records.specs.declared.fault.OpenFault.TheVariants.{Foreign};
 ghost use Rattle.sqlite.specs.Held.{state};
 ghost use Rattle.sqlite.specs.State.{HasCleanDisk, Opens};
-ghost use Rattle.history.specs.Holdings.{CrashLeaves, Holds, IsBare, IsHistory};
+ghost use Rattle.history.specs.Holdings.{CrashLeaves, HasChecksum, Holds, IsBare, IsHistory};
 ghost use Rattle.history.specs.Logs.{IsKnown, KeepsKnown};
 ghost use Rattle.history.specs.Openings.{FindsOrMakes, IsRead};
 
 use crate::causes::{cause_of, open_fault_of};
+use crate::checksums::{checksums_of, count_checksums, wrong_checksum};
 use crate::history::History;
 use crate::marks::{marks_of, size_of};
 use crate::reading::{first_of, read_rows};
 use crate::schema::{is_empty, is_ours};
 use crate::statements::{create_table, list};
-use kept_records::{Cause, MAX_RECORDS, OpenFault, Record};
-use sqlite::{Alter, Connection, Error, Row};
+use kept_records::{Cause, MAX_RECORDS, NO_CHECKSUM, OpenFault, Record};
+use sqlite::{Alter, Connection, Row};
 use std::alloc::Global;
 use streams::Trace;
 
-// The records of rows that were listed, and the number of the first.
-fn read_listed(alloc: Global, rows: &[Row]) -> Result<(u64, Vec<Record>), OpenFault>
-    ensures { IfOk result (λ read. IsRead rows.now read.0 read.1.items) }
+// What rows say: the records, the number of the first one, and the checksum of the last one.
+struct Listed {
+    first: u64,
+    kept: Vec<Record>,
+    sum: [u8; 32],
+}
+
+// Looks whether the checksums of records are these, and returns the last one's.
+fn check_sums(
+    alloc: Global,
+    rows: &[Row],
+    first: u64,
+    kept: &[Record],
+) -> Result<[u8; 32], OpenFault>
+    requires { first + length kept.now < 2 ^ 63 }
+    ensures checked { IfOk result (λ _. All (HasChecksum first (checksums_from first no_checksum kept.now)) rows.now) }
+    ensures last { IfOk result (λ sum. sum ≡ checksum_from first no_checksum kept.now) }
 {
-    if rows.len() > MAX_RECORDS {
+    let (sums, last) = match checksums_of(alloc, first, kept) {
+        Ok(made) => made,
+        Err(_) => return Err(OpenFault::Failed(Cause::Memory)),
+    };
+    match wrong_checksum(rows, first, &sums) {
+        Some(number) => Err(OpenFault::Damaged(number)),
+        None => Ok(last),
+    }
+}
+
+// The records of rows that were listed, the number of the first, and the checksum of the last. Those of checksums come first.
+fn read_listed(alloc: Global, rows: &[Row]) -> Result<Listed, OpenFault>
+    ensures { IfOk result (λ read. IsRead rows.now read.first read.kept.items read.sum) }
+{
+    let (sums, rest) = rows.split_at(count_checksums(rows));
+    if rest.len() > MAX_RECORDS {
         return Err(OpenFault::Foreign);
     }
-    let first = first_of(rows);
-    match read_rows(alloc, rows, first) {
-        Ok(Some(kept)) => Ok((first, kept)),
-        Ok(None) => Err(OpenFault::Foreign),
-        Err(_) => Err(OpenFault::Failed(Cause::Memory)),
+    let first = first_of(rest);
+    let kept = match read_rows(alloc, rest, first) {
+        Ok(Some(kept)) => kept,
+        Ok(None) => return Err(OpenFault::Foreign),
+        Err(_) => return Err(OpenFault::Failed(Cause::Memory)),
+    };
+    match check_sums(alloc, sums, first, &kept) {
+        Ok(sum) => Ok(Listed { first, kept, sum }),
+        Err(fault) => Err(fault),
     }
 }
 
 // The records of a database that was just opened, and the number of the first.
-fn read_all<S: Alter>(
-    alloc: Global,
-    conn: &mut Connection<S>,
-) -> Result<(u64, Vec<Record>), OpenFault>
+fn read_all<S: Alter>(alloc: Global, conn: &mut Connection<S>) -> Result<Listed, OpenFault>
     requires opens { HasCleanDisk (state S.Store conn.old) → Opens (state S.Store conn.old) }
-    ensures numbered { IfOk result (λ read. (1 ≤ read.0) × (read.0 ≤ 2 ^ 53) × (length read.1.items ≤ 65536)) }
+    ensures numbered { IfOk result (λ read. (1 ≤ read.first) × (read.first ≤ 2 ^ 53) × (length read.kept.items ≤ 65536)) }
+    ensures summed { IfOk result (λ read. read.sum ≡ checksum_from read.first no_checksum read.kept.items) }
     ensures holds { HasCleanDisk (state S.Store conn.new)
-        → IfOk result (λ read. IsHistory (state S.Store conn.new) read.0 read.1.items) }
+        → IfOk result (λ read. IsHistory (state S.Store conn.new) read.first read.kept.items) }
     ensures same { HasCleanDisk (state S.Store conn.new)
         → IfOk result (λ _. (state S.Store conn.new).committed ≡ (state S.Store conn.old).committed) }
     ensures leaves { CrashLeaves (state S.Store conn.old) (state S.Store conn.new) (λ _. ⊥) }
@@ -76,6 +109,7 @@ impl<S: Alter> History<S> {
                 first: 1,
                 len: 0,
                 size: 0,
+                sum: NO_CHECKSUM,
                 limit,
                 is_live: true,
                 marks: Trace::new(),
@@ -88,7 +122,8 @@ impl<S: Alter> History<S> {
     /// Takes the history that a database holds, and returns its records in order.
     ///
     /// Fails with `Foreign` if the schema is another one, or the records aren't numbered in order, have another kind, or
-    /// are more than 65536; the connection is returned, and nothing was written.
+    /// are more than 65536; and with `Damaged`, which names a record, if the checksum of one is another one than its own. The
+    /// connection is returned, and nothing was written.
     pub fn open_over(
         alloc: Global,
         conn: Connection<S>,
@@ -104,7 +139,7 @@ impl<S: Alter> History<S> {
         ensures err { IfErr result (λ left. CrashLeaves (state S.Store conn) (state S.Store left.1) (λ _. ⊥)) }
     {
         let mut conn = conn;
-        let (first, kept) = match read_all(alloc, &mut conn) {
+        let Listed { first, kept, sum } = match read_all(alloc, &mut conn) {
             Ok(read) => read,
             Err(fault) => return Err((fault, conn)),
         };
@@ -116,6 +151,7 @@ impl<S: Alter> History<S> {
             first,
             len: kept.len() as u32,
             size,
+            sum,
             limit,
             is_live: true,
             marks: marks_of(&kept),
@@ -150,22 +186,33 @@ impl<S: Alter> History<S> {
     }
 }
 
-/// Takes or makes the history of a database that was to be opened.
-pub(crate) fn take_opened<S: Alter + Drop, L: Drop>(
+/// Takes the history of a database, or makes one in a new database.
+///
+/// Fails with `Bare` if the database has no table and isn't new, and as `open_or_create` does.
+pub(crate) fn take_opened<S: Alter + Drop>(
     alloc: Global,
-    opened: Result<Connection<S>, (Error, L)>,
+    conn: Connection<S>,
+    is_new: bool,
     limit: u64,
 ) -> Result<(History<S>, Vec<Record>), OpenFault>
-    requires { IfOk opened (λ conn. HasCleanDisk (state S.Store conn) → Opens (state S.Store conn)) }
+    requires { HasCleanDisk (state S.Store conn) → Opens (state S.Store conn) }
     ensures known { IfOk result (λ taken. IsKnown taken.0 taken.1.items limit) }
-    ensures taken { IfOk result (λ taken. HasCleanDisk (state S.Store taken.0.conn) → (conn : _) × (opened ≡ Ok conn)
-        × HasCleanDisk (state S.Store conn) × FindsOrMakes S.Store conn taken.0 × KeepsKnown S.Store taken.0) }
+    ensures taken { IfOk result (λ taken. HasCleanDisk (state S.Store taken.0.conn)
+        → HasCleanDisk (state S.Store conn) × FindsOrMakes S.Store conn taken.0 × KeepsKnown S.Store taken.0) }
+    ensures finds { is_new ≡ false → IfOk result (λ taken. HasCleanDisk (state S.Store taken.0.conn)
+        → (state S.Store taken.0.conn).committed ≡ (state S.Store conn).committed) }
 {
-    match opened {
-        Ok(conn) => match History::open_or_create(alloc, conn, limit) {
+    if is_new {
+        return match History::open_or_create(alloc, conn, limit) {
             Ok(taken) => Ok(taken),
             Err((fault, _conn)) => Err(fault),
-        },
-        Err((error, _left)) => Err(open_fault_of(error)),
+        };
+    }
+    if is_empty(conn.schema()) {
+        return Err(OpenFault::Bare);
+    }
+    match History::open_over(alloc, conn, limit) {
+        Ok(taken) => Ok(taken),
+        Err((fault, _conn)) => Err(fault),
     }
 }

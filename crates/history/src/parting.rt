@@ -42,12 +42,14 @@ fn log_size<R: Files + AllocGlobal>(rt: &R, path: &str) -> Result<u64, AllocErro
     }
 }
 
-/// Fails with `Parted` if the file at a path is missing or empty, and the log beside it may have records. Nothing is opened.
-pub(crate) fn check_parted<R: Files + AllocGlobal>(rt: &R, path: &str) -> Result<(), OpenFault> {
+/// Returns whether the file at a path is a new one: missing or empty. Nothing is opened.
+///
+/// Fails with `Parted` if it is, and the log beside it may have records.
+pub(crate) fn check_parted<R: Files + AllocGlobal>(rt: &R, path: &str) -> Result<bool, OpenFault> {
     let file = file_size(rt, path);
     match log_size(rt, path) {
         Ok(log) if is_parted(file, log) => Err(OpenFault::Parted),
-        Ok(_) => Ok(()),
+        Ok(_) => Ok(file == 0),
         Err(_) => Err(OpenFault::Failed(Cause::Memory)),
     }
 }

@@ -7,8 +7,9 @@ ghost use Rattle.sqlite.specs.Held.{state};
 ghost use Rattle.sqlite.specs.State.{HasCleanDisk, IsUnchanged, Shows};
 ghost use Rattle.sqlite.specs.Value.{owned};
 ghost use Rattle.sqlite.specs.declared.types.Value.TheVariants.{Int};
+ghost use Rattle.sqlite_trees.specs.Tree.{put_row};
 ghost use Rattle.history.specs.Holdings.{CrashLeaves, IsAsBefore, IsNext, Leads};
-ghost use Rattle.history.specs.Tables.{empty_schema, history_schema, shown_row, stored_row};
+ghost use Rattle.history.specs.Tables.{checksum_key, empty_schema, history_schema, shown_row, stored_cells, stored_row};
 
 use kept_records::Kind;
 use sqlite::types::ValueRef;
@@ -48,6 +49,14 @@ fn number_value<'a>(number: u64) -> ValueRef<'a>
     ValueRef::Int(number as i64)
 }
 
+// The key of a checksum as a parameter.
+fn key_value<'a>(number: u64) -> ValueRef<'a>
+    requires { number < 2 ^ 63 }
+    ensures { owned result ≡ Int (checksum_key number) }
+{
+    ValueRef::Int(-(number as i64))
+}
+
 /// Adds a record with the next number.
 pub(crate) fn insert<S: Alter>(
     conn: &mut Connection<S>,
@@ -73,6 +82,33 @@ pub(crate) fn insert<S: Alter>(
     conn.execute(
         "INSERT INTO record (number, kind, bytes) VALUES (?1, ?2, ?3)",
         &[number, kind, ValueRef::Blob(bytes)],
+    )
+}
+
+// rule: Checksum of a record
+/// Adds the checksum of the record of a number.
+pub(crate) fn insert_checksum<S: Alter>(
+    conn: &mut Connection<S>,
+    number: u64,
+    sum: &[u8; 32],
+) -> Result<usize, Error>
+    requires fits { number < 2 ^ 63 }
+    requires ready { HasCleanDisk (state S.Store conn.old) → (state S.Store conn.old).now.schema ≡ history_schema }
+    ensures made { HasCleanDisk (state S.Store conn.new)
+        → OnOk result (Leads (state S.Store conn.old) (state S.Store conn.new) history_schema) }
+    ensures put { HasCleanDisk (state S.Store conn.new) → OnOk result ((state S.Store conn.new).now.trees 0
+        ≡ put_row (stored_cells (checksum_key number) 0 sum.now) ((state S.Store conn.old).now.trees 0)) }
+    ensures failed { HasCleanDisk (state S.Store conn.new)
+        → OnErr result (IsAsBefore (state S.Store conn.old) (state S.Store conn.new)) }
+    ensures leaves { CrashLeaves (state S.Store conn.old) (state S.Store conn.new)
+        (λ db. ((state S.Store conn.old).in_transaction ≡ false)
+        × (db 0 ≡ put_row (stored_cells (checksum_key number) 0 sum.now) ((state S.Store conn.old).now.trees 0))) }
+{
+    let key = key_value(number);
+    let kind = number_value(0);
+    conn.execute(
+        "INSERT INTO record (number, kind, bytes) VALUES (?1, ?2, ?3)",
+        &[key, kind, ValueRef::Blob(sum)],
     )
 }
 

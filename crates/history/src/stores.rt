@@ -4,7 +4,8 @@ ghost use Rattle.std.specs.Prelude.{◌≡◌, ◌↔◌, ◌<◌, ◌≤◌, �
 ghost use Rattle.kept_records.specs.declared.fault.AppendFault.TheVariants.{Full};
 ghost use Rattle.kept_records.specs.declared.record.Kind.TheVariants.{Profile};
 ghost use Rattle.kept_records.specs.Keeping.{Appends, Compacts, HasRoom, Numbers, record_of};
-ghost use Rattle.sqlite.specs.Files.{file_state};
+ghost use Rattle.sqlite.specs.Files.{IsOpened, file_state};
+ghost use Rattle.sqlite.specs.Start.{FindsIn};
 ghost use Rattle.sqlite.specs.State.{HasCleanDisk};
 ghost use Rattle.sqlite.specs.WalFiles.{image_at};
 ghost use Rattle.history.specs.Changes.{HasNoRoom, IsNumbered, Makes, ReportsChange};
@@ -12,23 +13,62 @@ ghost use Rattle.history.specs.Logs.{IsKnown, Reports, ReportsCompaction};
 ghost use Rattle.history.specs.Openings.{IsOpenedAt};
 
 use crate::appending::Change;
+use crate::causes::open_fault_of;
 use crate::history::History;
 use crate::opening::take_opened;
 use crate::parting::check_parted;
 use kept_records::{AppendFault, Cause, Kind, OpenFault, ReadFault, Record, Records, Stores};
 use sqlite::{Connection, FileFrom, FileStore, Start, Wary};
+use sqlite_pager::Options;
+use sqlite_std_file::OpenError as PathError;
 use std::alloc::Global;
+use std::hash::{BuildHasher, RandomState};
+use std::io::ErrorKind;
 use std::marker::Model;
 use std::rt::HostRuntime;
+
+// How many pages a log may have before it is copied into the database file, at the next commit: that of a checksum may be
+// alone, and a record before it is copied.
+const MAX_LOG_PAGES: usize = 2;
+
+// Opens the database in the files at a path.
+fn open_files<S: Start>(
+    rt: &HostRuntime,
+    path: &str,
+    start: S,
+) -> Result<Connection<FileStore<FileFrom<S>>>, OpenFault>
+    ensures opened { IfOk result (λ conn. HasCleanDisk (file_state conn) → IsOpened conn) }
+    ensures found { IfOk result (λ conn. HasCleanDisk (file_state conn) → FindsIn (image_at S.Start) (file_state conn)) }
+{
+    let files = match sqlite_std_file::open(rt, path, start) {
+        Ok(files) => files,
+        Err(PathError::OutOfMemory) => return Err(OpenFault::Failed(Cause::Memory)),
+        Err(PathError::Busy) => return Err(OpenFault::Busy),
+        Err(PathError::Io(error)) if error.kind() == ErrorKind::OutOfMemory => {
+            return Err(OpenFault::Failed(Cause::Memory));
+        }
+        Err(_) => return Err(OpenFault::Unopened),
+    };
+    let Ok(seed) = RandomState::new(rt) else {
+        return Err(OpenFault::Unopened);
+    };
+    let mut options = Options::new(seed.hash_one(&0u8));
+    options.checkpoint_frames = MAX_LOG_PAGES;
+    match Connection::open_files(rt.alloc(), files, options) {
+        Ok(conn) => Ok(conn),
+        Err((error, _left)) => Err(open_fault_of(error)),
+    }
+}
 
 // rule: Opened history
 /// Opens the history in the file at a path, or makes one in a new or empty file, and returns its records in order.
 ///
-/// The file has a log beside it, whose name is the path and `-wal`: the two belong together. `start` says what contracts
-/// suppose of the files before; a program passes `Wary`, which syncs each commit twice.
+/// The file has a log beside it, whose name is the path and `-wal`: the two belong together. Once a call that changes the
+/// records has succeeded, the file has them without its log, but for a checksum. `start` says what contracts suppose of the
+/// files before; a program passes `Wary`, which syncs each commit twice.
 ///
 /// Fails with `Parted` if the file is missing or empty and its log may have records, which an open would drop; then nothing is
-/// opened, made or written.
+/// opened, made or written. Fails with `Bare` if the file has no table, and isn't new: then nothing is made of it.
 pub fn open_at<S: Start>(
     rt: &HostRuntime,
     path: &str,
@@ -38,12 +78,12 @@ pub fn open_at<S: Start>(
     ensures known { IfOk result (λ opened. IsKnown opened.0 opened.1.items limit) }
     ensures opened { IfOk result (λ opened. HasCleanDisk (file_state opened.0.conn) → IsOpenedAt (image_at S.Start) opened.0) }
 {
-    match check_parted(rt, path) {
-        Ok(()) => take_opened(
-            rt.alloc(),
-            Connection::open_from(rt, path, false, start),
-            limit,
-        ),
+    let is_new = match check_parted(rt, path) {
+        Ok(is_new) => is_new,
+        Err(fault) => return Err(fault),
+    };
+    match open_files(rt, path, start) {
+        Ok(conn) => take_opened(rt.alloc(), conn, is_new, limit),
         Err(fault) => Err(fault),
     }
 }

@@ -1,3 +1,4 @@
 pub mod Keeping
+pub mod Checksums
 pub mod Memories
 pub mod Unkept

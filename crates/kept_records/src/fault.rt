@@ -74,6 +74,12 @@ pub enum OpenFault {
     /// There is a log with records, and the file that it belongs to is missing or empty.
     #[error("it has a log, but its file is missing or empty")]
     Parted,
+    /// There is a page without a table, as a file that lost its log has, or one whose first start was cut off.
+    #[error("it has no table: its log is missing or damaged")]
+    Bare,
+    /// The record of this number isn't the one that was kept, or is missing.
+    #[error("record {0} is damaged")]
+    Damaged(u64),
     /// A call failed.
     #[error("{0}")]
     Failed(Cause),

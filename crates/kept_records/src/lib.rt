@@ -13,6 +13,7 @@
 
 #![tactic(auto)]
 
+mod checksum;
 mod fault;
 mod limits;
 mod memory;
@@ -22,6 +23,7 @@ mod storing;
 mod turn;
 mod unkept;
 
+pub use crate::checksum::{NO_CHECKSUM, checksum_of};
 pub use crate::fault::{AppendFault, Cause, OpenFault, ReadFault};
 pub use crate::limits::{DEFAULT_LIMIT, MAX_RECORDS, has_room};
 pub use crate::memory::MemoryRecords;

@@ -1,19 +1,15 @@
-use Rattle.std.proofs.lemmas.Result.{IfOk-at_ok, IfOk-weaker}
-use Rattle.sqlite.specs.Files.{file_state}
-use Rattle.sqlite.specs.Start.{FindsIn}
-use Rattle.sqlite.specs.State.{HasCleanDisk}
-use Rattle.sqlite.specs.WalFiles.{image_at}
+use Rattle.std.proofs.lemmas.Result.{IfOk-weaker}
 use Rattle.history.proofs.stores.open_at.Goals as goal
 
 pub take_opened-requires : goal.take_opened-requires
-take_opened-requires g c = IfOk-weaker c.open_from.result _ _ (λ conn opened clean. (opened clean).0) c.open_from.ensures.opened
+take_opened-requires g c clean = (c.in-Ok-open_files.ensures.opened clean).0
 
-pub returns-in-Ok-clause-opened : goal.returns-in-Ok-clause-opened
-returns-in-Ok-clause-opened g c = IfOk-weaker c.take_opened.result _ _ (λ taken made clean.
+pub returns-in-Ok-open_files-clause-opened : goal.returns-in-Ok-open_files-clause-opened
+returns-in-Ok-open_files-clause-opened g c = IfOk-weaker c.take_opened.result _ _ (λ taken made clean.
     let was = made clean in
     record {
-      was = was.0;
-      found = IfOk-at_ok (λ conn. HasCleanDisk (file_state conn) → FindsIn (image_at g.S.Start) (file_state conn)) was.1 c.open_from.ensures.found was.2;
-      same = was.3;
-      keeps = was.4;
+      was = c.in-Ok-open_files.conn;
+      found = c.in-Ok-open_files.ensures.found was.0;
+      same = was.1;
+      keeps = was.2;
     }) c.take_opened.ensures.taken

@@ -1,4 +1,5 @@
 use Rattle.std.proofs.Common.{[], arith, refl, subst, sym, true}
+use Rattle.kept_records.specs.Checksums.{no_checksum}
 use Rattle.sqlite.specs.Held.{state}
 use Rattle.history.proofs.HistoryLemmas.{CrashLeaves-weaker, history_keeps, history_of}
 use Rattle.history.proofs.RowLemmas.{Holds-nil}
@@ -8,9 +9,10 @@ use Rattle.history.proofs.history.History.create.Goals as goal
 
 pub invariant_of-result : goal.invariant_of-result
 invariant_of-result g c =
-    subst (λ marks. IsLog g.S.Store c.create_table.new.conn 1 0 0 marks true) (sym c.new.ensures)
+    subst (λ marks. IsLog g.S.Store c.create_table.new.conn 1 0 0 no_checksum marks true) (sym c.new.ensures)
     (record {
       numbered = (omega arith, omega arith);
+      summed = refl;
       counted = refl;
       bounded = omega arith;
       sized = refl;

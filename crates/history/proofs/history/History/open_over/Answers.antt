@@ -8,5 +8,5 @@ pub returns-clause-keeps : goal.returns-clause-keeps
 returns-clause-keeps g c clean =
     let new = state g.S.Store c.read_all.new.conn in
     let is = c.in-Ok.ensures.holds clean in
-    subst (Keeps new c.in-Ok.read.0) (sym (c.marks_of.ensures ∙ c.deref-2.ensures.value))
-    (history_keeps new c.in-Ok.read.0 _ is (λ db may. g.met.S.Store.settled c.read_all.new.conn.store db is.is_open may))
+    subst (Keeps new c.in-Ok.read.first) (sym (c.marks_of.ensures ∙ c.deref-2.ensures.value))
+    (history_keeps new c.in-Ok.read.first _ is (λ db may. g.met.S.Store.settled c.read_all.new.conn.store db is.is_open may))
