@@ -8,8 +8,24 @@ call fail, for N from 1 until a run has no Nth call. It prints a line for each s
 how many runs there were, and how many were wrong; NAME is a sweep alone, or the first part of the names of some.
 
 A run of a command must end with the status 1, the line `omaha: memory` and no output, or go on without that memory and print
-what it prints with memory. A run of `serve` has two workers and an operator. It is asked for updates, packages and a dump, a
-script is published and a budget raised; what it rejects since memory ran out it does when it is asked again. A run of a test must pass.
+what it prints with memory. A run of `serve` has two workers and an operator. It is asked for updates, packages, a dump and
+pages, a script is published and a budget raised; what it rejects since memory ran out it does when it is asked again. Its
+mirror's total is the sum of what it offered, and of what it granted to the update check that ran out of memory, if it did.
+A run of a test must pass.
+
+The public calls that may run out of memory are shown so:
+
+- by `once`: `read_profile`, `make_service` with `Catalogue::applied`, `Edition::next_with`, `build_for` and `solve`,
+  `open_edition`, `work_with_tills` with `open_books`, `read_request`, `reply_to` with `plan_with`, `render` and
+  `CohortText::print`, and `write_reply`;
+- by `serve`: the same but `work_with_tills`, and `run_with_tills`, the operator's `read_script`, `Press::prepare`,
+  `Press::show_prepared`, `Certified::copy`, `Budgets::mirrors` and `write_profile`, its pages, the lines of the log, and the
+  buffers of connections; with a history, its records;
+- by `check`, `certify` and `verify`: `read_prices`, `write_prices`, `check_parallel` and `Graph::of_track`;
+- by `walk`: `Client::walk` with `write_request` and `read_reply`, and by it, `publish`, `raise`, `dump` and `status` `post_to`;
+- by `history`: `EditionBuilder` with `build`; by `review`, `graph`, `describe`, `script` and `explain` what each prints;
+- by the tests: `Catalogue::apply`, `Catalogue::copy`, `Batch::copy`, `tables`, `build`, `build_for`, and `Client::walk` over
+  devices in memory.
 
 It needs a C compiler, the program, and the tests whose names end in `_without_memory`, which `make allocations` builds.
 """
@@ -18,6 +34,7 @@ import argparse
 import contextlib
 import os
 import pathlib
+import re
 import shutil
 import subprocess
 import sys
@@ -30,6 +47,7 @@ TOP = pathlib.Path(__file__).resolve().parent.parent
 EXAMPLES = TOP / "examples"
 # the crates that have tests without memory
 CRATES = ["catalogue_rows", "client_rows"]
+ENDING = "_without_memory"
 LIMIT = 20
 SHOWN = 5
 
@@ -134,8 +152,9 @@ class Calling(Command):
 class Test:
     """A test of a crate, which passes whatever call fails."""
 
-    def __init__(self, name, full, tests):
-        self.name, self.full, self.tests = name, full, tests
+    def __init__(self, full, tests):
+        self.full, self.tests = full, tests
+        self.name = full.rsplit("::", 1)[-1].removesuffix(ENDING)
 
     def once(self, _program, shim):
         found = run([self.tests, self.full], shim)
@@ -150,6 +169,21 @@ SCRIPT = (EXAMPLES / "scripts" / "stage.toml").read_bytes()
 
 def posted(path, body):
     return b"POST " + path + b" HTTP/1.1\r\nConnection: close\r\nContent-Length: %d\r\n\r\n" % len(body) + body
+
+
+def got(path):
+    return b"GET " + path + b" HTTP/1.1\r\nConnection: close\r\n\r\n"
+
+
+def offered(reply):
+    """The bytes that a reply offers: of each package, those of its differential if it has one."""
+    found = re.findall(rb'"size":(\d+)(?:,"sizediff":(\d+))?', reply[1]) if reply else []
+    return sum(int(differential or size) for size, differential in found)
+
+
+def counted(name, page):
+    """The sum of the samples of a metric."""
+    return sum(int(number) for number in re.findall(rb"(?m)^%s\{.*\} (\d+)$" % name, page))
 
 
 # rule: Due edition
@@ -169,7 +203,7 @@ class Serving:
     lines, more = (b"",), ()
     messages = [
         ("clients", posted(b"/service/update2/json", UPDATE)),
-        ("clients", b"GET /p/mini-1.0.bin HTTP/1.1\r\nConnection: close\r\n\r\n"),
+        ("clients", got(b"/p/mini-1.0.bin")),
         ("operator", posted(b"/operate", SCRIPT)),
         ("clients", posted(b"/service/update2/json", UPDATE)),
         ("operator", posted(b"/operate", b"dump")),
@@ -177,15 +211,17 @@ class Serving:
         ("operator", posted(b"/operate", b"schema = 1\nbase = 2\n[[edit]]\ndo = 'set_share'\napp = 'x'\ncohort = 'y'\nshare = 1\n")),
         ("clients", posted(b"/service/update2/json", b"{")),
     ]  # fmt: skip
+    # what the last one of says is compared with the total
+    pages = (b"/healthz", b"/status", b"/", b"/metrics")
 
     def __init__(self, folder):
-        self.folder, self.wanted, self.total = pathlib.Path(folder), None, None
+        self.folder, self.wanted = pathlib.Path(folder), None
         shutil.copytree(EXAMPLES / "packages", self.folder / "packages")
         shutil.copy(EXAMPLES / "live.toml", self.folder / "live.toml")
 
     def once(self, program, shim):
         ports = {"clients": server.free_port(), "operator": server.free_port()}
-        self.left = {"clients": 6, "operator": 6}
+        self.left, self.again = {"clients": 6, "operator": 10}, None
         words = [program, "serve", "--profile", "live.toml", "--packages", "packages", "--workers", "2", "--timeout", "1"]
         words += ["--listen", f"127.0.0.1:{ports['clients']}", "--operator", f"127.0.0.1:{ports['operator']}"]
         words += ["--sessions", str(self.left["clients"]), "--edits", str(self.left["operator"]), "--log", "log", *self.more]
@@ -203,20 +239,25 @@ class Serving:
         if process.stdout.readline() != b"ready\n":
             ended = process.communicate(timeout=LIMIT)[1], process.returncode
             return None if self.wanted and ended[0] in (b"omaha: memory\n", *self.lines[1:]) and ended[1] == 1 else f"before ready: {ended}"
-        failed, replies = 0, []
-        for to, message in self.messages:
-            reply = self.send(ports, to, message)
-            while self.wanted and failed == 0 and reply != self.wanted[len(replies)]:
-                if reply and (reply[0] not in (200, 500) or (reply[0] == 200 and not reply[2])):
-                    return f"message {len(replies)}: {reply!r:.200}"
-                failed, reply = failed + 1, self.send(ports, to, message)
-                reply = settled(reply, self.wanted[len(replies)], len(replies))
-            replies.append(reply)
+        replies = [self.ask(ports, number, *message) for number, message in enumerate(self.messages)]
+        pages = [self.ask(ports, len(self.messages), "operator", got(path)) for path in self.pages]
         for to, port in ports.items():
             for _ in range(self.left[to]):
                 with contextlib.suppress(*ENDED):
                     server.Connection(port).socket.close()
-        return self.judge_end(process, replies)
+        return self.judge_end(process, replies, pages[-1])
+
+    def ask(self, ports, number, to, message):
+        """The reply to a message; the first one of a run that is rejected is sent again."""
+        reply = self.send(ports, to, message)
+        wanted = self.wanted[number] if self.wanted and number < len(self.wanted) else None
+        is_right = reply == wanted if wanted else reply and (reply[0], reply[2]) == (200, False)
+        if not self.wanted or self.again is not None or is_right:
+            return reply
+        if reply and (reply[0] not in (200, 500) or (reply[0] == 200 and not reply[2])):
+            raise Wrong(f"message {number}: {reply!r:.200}")
+        self.again = number
+        return settled(self.send(ports, to, message), wanted, number)
 
     def send(self, ports, to, message):
         """The status of the reply, its body, and whether that is a part; `None` without a reply."""
@@ -233,25 +274,31 @@ class Serving:
         body = reply.body.partition(b'"daystart"')[0]
         return reply.status, body, len(reply.body) < reply.length
 
-    def judge_end(self, process, replies):
+    def judge_end(self, process, replies, metrics):
         output, errors = process.communicate(timeout=LIMIT)
         total = int(output.split()[1]) if output.startswith(b"m0 ") else None
         if self.wanted is None:
-            self.wanted, self.total = replies, total
-            are = [reply and reply[0] for reply in replies] == [200, 200, 200, 200, 200, 200, 422, 400]
-            return None if are and (process.returncode, errors) == (0, b"") else f"with memory: {replies!r:.300} {errors}"
+            self.wanted = replies
+            are = [reply and reply[0] for reply in replies] == [200, 200, 200, 200, 200, 200, 422, 400] and self.is_total(total, metrics)
+            return None if are and (process.returncode, errors) == (0, b"") else f"with memory: {replies!r:.300} {output} {errors}"
         if (process.returncode, output, errors) == (1, b"", b"omaha: memory\n"):
             return None
         if (process.returncode, output, errors) == (1, b"", b"omaha: thread\n") and not any(replies):
             return None
         if replies != self.wanted:
             return f"replies {replies!r:.300}, end {process.returncode} {output} {errors}"
-        # a reply that was rejected may have been granted before, once
-        extra = (total or 0) - self.total
-        is_total = extra in (0, 1960, 2600, 3480, 188, 235)
-        if process.returncode != 0 or not is_total or errors not in self.lines:
-            return f"end: {process.returncode} {output} {errors}"
+        if process.returncode != 0 or errors not in self.lines or not self.is_total(total, metrics):
+            return f"end: {process.returncode} {output} {errors} {self.again} {metrics!r:.3000}"
         return None
+
+    def is_total(self, total, metrics):
+        """Whether the total is what the mirror granted: what was offered, and the bytes of a check that ran out of memory."""
+        if total is None or metrics is None:
+            return False
+        sums = [offered(reply) for reply in self.wanted] + [0]
+        again = sums[self.again] if self.again is not None else 0
+        granted, counts = counted(b"omaha_mirror_granted_bytes", metrics[1]), counted(b"omaha_offered_bytes_total", metrics[1])
+        return total == granted >= counts and {total - sum(sums), counts - sum(sums)} <= {0, again}
 
 
 class Keeping(Serving):
@@ -280,6 +327,7 @@ def commands():
     staged, chains, served = (str(EXAMPLES / "staged.toml"), str(EXAMPLES / "chains.toml"), str(server.PROFILE))
     request = (EXAMPLES / "beta.json").read_bytes()
     track, packages = ["demo", "stable", "target", "no"], str(EXAMPLES / "packages")
+    live, stage = str(EXAMPLES / "live.toml"), str(EXAMPLES / "scripts" / "stage.toml")
     return [
         Command("once", ["once", "--profile", staged, "--moment", "1767229261"], request),
         Command("once, no request", ["once", "--profile", staged], b"{", 1),
@@ -293,7 +341,11 @@ def commands():
         Command("script", ["script", "--base", "1", "set_share", "app=demo", "cohort=stable", "share=100", "--", "set_audience", "app=demo", "version=1.0", "cohorts=stable,beta"]),
         Command("script, no script", ["script", "--base", "1", "set_share", "app=demo", "share=a"], b"", 1),
         Command("review", ["review", chains]),
-        Command("review, with a script", ["review", str(EXAMPLES / "live.toml"), "--script", str(EXAMPLES / "scripts" / "stage.toml")]),
+        Command("review, objects", ["review", chains, "--json"]),
+        Command("review, with a script", ["review", live, "--script", stage]),
+        Command("review, objects with a script", ["review", live, "--script", stage, "--json"]),
+        Command("graph", ["graph", chains, "demo"]),
+        Command("graph, for dot", ["graph", chains, "demo", "--dot"]),
     ]
 
 
@@ -321,6 +373,7 @@ def calls(port, operator, script):
         Calling("publish", ["publish", "--to", at, script], net, 1),
         Calling("raise", ["raise", "--to", at, "m0", "1000000000000"], net),
         Calling("dump", ["dump", "--to", at], net),
+        Calling("status", ["status", "--to", at], net),
     ]
 
 
@@ -342,13 +395,13 @@ def serving(program, folder):
 
 
 def tests_of(crate):
-    """The tests of a crate whose names end in `_without_memory`, by the names of their calls."""
+    """The tests of a crate that are swept, by the names of their calls."""
     path = str(TOP / "crates" / crate / "out" / f"{crate}_tests")
     if not os.path.isfile(path):
         sys.exit(f"{path} isn't built: make allocations builds it")
     listed = subprocess.run([path, "--list"], capture_output=True, text=True, check=True).stdout
-    full = [line.removesuffix(": test") for line in listed.splitlines() if line.endswith("_without_memory: test")]
-    return [Test(name.rsplit("::", 1)[-1].removesuffix("_without_memory"), name, path) for name in full]
+    names = [line.removesuffix(": test") for line in listed.splitlines()]
+    return [Test(name, path) for name in names if name.endswith(ENDING)]
 
 
 def sweep(library, program, swept):
