@@ -11,7 +11,7 @@ A run of a command must end with the status 1, the line `omaha: memory` and no o
 what it prints with memory. A run of `serve` has two workers and an operator. It is asked for updates, packages, a dump and
 pages, a script is published and a budget raised; what it rejects since memory ran out it does when it is asked again. Its
 mirror's total is the sum of what it offered, and of what it granted to the update check that ran out of memory, if it did.
-A run of a test must pass.
+It closes no connection without a byte once it did what a message asked for. A run of a test must pass.
 
 The public calls that may run out of memory are shown so:
 
@@ -163,6 +163,8 @@ class Test:
 
 # how a connection fails to a server that has ended, or ends meanwhile
 ENDED = (ConnectionRefusedError, ConnectionResetError)
+# how a server ends that has no memory for its books, or for a thread: it has accepted nobody
+START = (b"omaha: memory\n", b"omaha: thread\n")
 UPDATE = b'{"request":{"protocol":"3.1","app":[{"appid":"mini","cohort":"stable:7","updatecheck":{}}]}}'
 SCRIPT = (EXAMPLES / "scripts" / "stage.toml").read_bytes()
 
@@ -187,15 +189,11 @@ def counted(name, page):
 
 
 # rule: Due edition
-def settled(reply, wanted, number):
-    """The reply to a message that was sent again: that to a script whose edition was due counts as the first one."""
-    return wanted if number == 2 and reply == (409, b"stale 2\n", False) else reply
-
-
+# rule: Reply without memory
 class Serving:
     """A server with two workers and an operator; a message that it rejects since memory ran out is sent again.
 
-    A script may then be kept whose edition is due. Sent again, it is stale.
+    Sent again it gets its first reply. So a script that was rejected, or whose connection was closed, wasn't published.
     """
 
     name = "serve, with publish, raise and dump"
@@ -257,7 +255,11 @@ class Serving:
         if reply and (reply[0] not in (200, 500) or (reply[0] == 200 and not reply[2])):
             raise Wrong(f"message {number}: {reply!r:.200}")
         self.again = number
-        return settled(self.send(ports, to, message), wanted, number)
+        return self.settled(reply, self.send(ports, to, message), number)
+
+    def settled(self, _first, reply, _number):
+        """The reply to a message that was sent again, after its first one."""
+        return reply
 
     def send(self, ports, to, message):
         """The status of the reply, its body, and whether that is a part; `None` without a reply."""
@@ -281,10 +283,10 @@ class Serving:
             self.wanted = replies
             are = [reply and reply[0] for reply in replies] == [200, 200, 200, 200, 200, 200, 422, 400] and self.is_total(total, metrics)
             return None if are and (process.returncode, errors) == (0, b"") else f"with memory: {replies!r:.300} {output} {errors}"
-        if (process.returncode, output, errors) == (1, b"", b"omaha: memory\n"):
+        if (process.returncode, output) == (1, b"") and errors in START and not any(replies):
             return None
-        if (process.returncode, output, errors) == (1, b"", b"omaha: thread\n") and not any(replies):
-            return None
+        if (process.returncode, output, errors) == (1, b"", b"omaha: memory\n") and replies == self.wanted:
+            return None  # the totals of a server whose last connection has ended
         if replies != self.wanted:
             return f"replies {replies!r:.300}, end {process.returncode} {output} {errors}"
         if process.returncode != 0 or errors not in self.lines or not self.is_total(total, metrics):
@@ -302,7 +304,7 @@ class Serving:
 
 
 class Keeping(Serving):
-    """The same with a history."""
+    """The same with a history: a script that got 500 may be kept, and its edition due. Sent again, it is stale."""
 
     name = "serve with a history, publish, raise and dump"
     lines = (b"", b"omaha: history kept.db: out of memory\n", b"omaha: history kept.db: closed by an earlier failure\n")
@@ -312,6 +314,10 @@ class Keeping(Serving):
         for path in self.folder.glob("kept.db*"):
             path.unlink()
         return super().once(program, shim)
+
+    def settled(self, first, reply, number):
+        due = number == 2 and first is not None and reply == (409, b"stale 2\n", False)
+        return self.wanted[number] if due else reply
 
 
 class Reading(Command):

@@ -15,7 +15,7 @@ use Rattle.http_sessions.specs.Readings.{IsFound}
 use Rattle.http_sessions.specs.Sessions.{Writes}
 use Rattle.http_sessions.specs.Stops.{Last, More, Stop, end_after, stop_bytes}
 use Rattle.http_sessions.specs.Talks.{IsSent}
-use Rattle.http_sessions.specs.Leaves.{EndsLost, EndsOpen, EndsOver, EndsSending, IsDone, IsNew, IsStarted, Leaves, Makes}
+use Rattle.http_sessions.specs.Leaves.{EndsFailed, EndsOpen, EndsOver, EndsSending, Fails, IsDone, IsNew, IsStarted, Leaves, Makes}
 use Rattle.http_sessions.specs.declared.talks.outcome.After.{After}
 use Rattle.http_sessions.specs.declared.talks.outcome.After.TheVariants as after
 use Rattle.http_sessions.specs.declared.talks.talk.Sending.{Sending}
@@ -131,14 +131,8 @@ module _
               (made_is ∙ sent ∙ ap (λ (b : Bool). reply_to kind b answers.used) same) answers.calls
               (refl, (how, end_as closes (closing (start == 999) is.head) handled _ how same came ends), refl),
         )
-    done_leaves handled closes made after.Lost same answers done =
-        let (came, sent) = answers.writes in (
-          drop found.length kept,
-          made,
-          true,
-          made_last answers.used true made EndsLost answers.fits
-              (sent ∙ ap (λ (b : Bool). reply_to kind b answers.used) same) answers.calls refl,
-        )
+    done_leaves handled closes made (after.Failed bytes) same answers done = absurd done
+    done_leaves handled closes made after.Lost same answers done = absurd done
 
     -- the head of a package
     pub started_leaves :
@@ -174,13 +168,8 @@ module _
           ),
         ))
     started_leaves name declared closes sending made (after.Over bytes) same fit calls head new done = absurd done
-    started_leaves name declared closes sending made after.Lost same fit calls head new done = (
-      drop found.length kept,
-      made,
-      true,
-      made_last (Fetched name declared (Broken [])) true made EndsLost fit
-          (head ∙ ap (λ (b : Bool). reply_to kind b (Fetched name declared (Broken []))) same) calls refl,
-    )
+    started_leaves name declared closes sending made (after.Failed bytes) same fit calls head new done = absurd done
+    started_leaves name declared closes sending made after.Lost same fit calls head new done = absurd done
 
     -- memory ran out for the package's name
     pub unstarted_leaves :
@@ -188,13 +177,13 @@ module _
         IsFit found.request.method found.request.target.now (Fetched name declared (Broken [])) →
         Leads steps before (calls_of found.request.body.now (Fetched name declared (Broken []))) behind →
         Appends (Some []) (Some made) (reply_to kind closes (Fetched name declared (Broken []))) →
-        Leaves IsFit steps kind start kept before behind after.Lost
+        Fails IsFit steps kind start kept before behind
     unstarted_leaves name declared closes made same fit calls head = (
       drop found.length kept,
       made,
       true,
-      made_last (Fetched name declared (Broken [])) true made EndsLost fit
-          (head ∙ ap (λ (b : Bool). reply_to kind b (Fetched name declared (Broken []))) same) calls refl,
+      made_last (Fetched name declared (Broken [])) true made EndsFailed fit
+          (head ∙ ap (λ (b : Bool). reply_to kind b (Fetched name declared (Broken []))) same) calls (refl, refl),
     )
 
     -- memory ran out for the reply
@@ -202,12 +191,12 @@ module _
         (closes : Bool) (made : List ℕ) (failed : Failed) → closes ≡ closing (start == 999) is.head →
         Answers (IsFit found.request.method found.request.target.now) steps kind found.request.body.now closes before behind
         (Some []) (Some made) (Err failed) →
-        Leaves IsFit steps kind start kept before behind after.Lost
+        Fails IsFit steps kind start kept before behind
     failed_leaves closes made failed same answers = (
       drop found.length kept,
       made,
       false,
-      made_last answers.used false made EndsLost answers.fits
+      made_last answers.used false made EndsFailed answers.fits
           (subst (λ (b : Bool). Writes false (Some []) (Some made) [] (reply_to kind b answers.used)) same answers.writes)
-          answers.calls refl,
+          answers.calls (refl, refl),
     )

@@ -1,5 +1,5 @@
 -- A reply, after what was said.
-use Rattle.std.proofs.Common.{◌≡◌, ◌∙◌, ◌+◌, ◌==◌, ◌++◌, ◌≤◌, ℕ, Bool, true, List, [], append-nil, append_assoc, length, length-append, Option, Some, sym, subst, ap, arith}
+use Rattle.std.proofs.Common.{◌≡◌, ◌∙◌, ◌+◌, ◌==◌, ◌++◌, ℕ, Bool, true, List, [], ◌∷◌, append-nil, append_assoc, length, length-append, Option, Some, refl, sym, subst, ap, arith}
 use Rattle.std.specs.Prelude.{flat_map}
 use Rattle.std.proofs.lemmas.Grind.{flat_map-append}
 use Rattle.http_desks.specs.declared.method.Method.{Method}
@@ -8,9 +8,9 @@ use Rattle.http_desks.specs.Uses.{Use}
 use Rattle.http_ports.specs.Traffic.{later, timestamp_of}
 use Rattle.http_ports.specs.declared.timestamp.Timestamp.{Timestamp}
 use Rattle.http_sessions.specs.Messages.{Exchange, IsOpen, exchange_bytes, exchange_calls, open_reply}
-use Rattle.http_sessions.specs.Stops.{Ends, More, Stop, stop_bytes, stop_calls}
+use Rattle.http_sessions.specs.Stops.{Ends, Stop, stop_bytes, stop_calls}
 use Rattle.http_sessions.specs.Sessions.{Serves}
-use Rattle.http_sessions.specs.Talks.{AreReplies, IsAt, Said, SendsFor, pending, waiting_at, waiting_of}
+use Rattle.http_sessions.specs.Talks.{IsAt, Said, SendsFor, failure_reply, pending, phase_of, waiting_at, waiting_of}
 use Rattle.http_sessions.specs.Timestamps.{AreTimed, IsAskedAt, IsLastTimed, IsPlaced}
 use Rattle.http_sessions.specs.Leaves.{GoesOn, IsApplied, Leaves}
 use Rattle.http_sessions.specs.declared.talks.outcome.After.{After}
@@ -18,9 +18,14 @@ use Rattle.http_sessions.specs.declared.talks.outcome.After.TheVariants as after
 use Rattle.http_sessions.specs.declared.talks.talk.Stage.{Stage}
 use Rattle.http_sessions.specs.declared.talks.talk.Stage.TheVariants as stage
 use Rattle.http_sessions.specs.declared.talks.talk.Talk.{Talk}
-use Rattle.http_sessions.proofs.TalkLemmas.{all_replies}
-use Rattle.http_sessions.proofs.TimestampLemmas.{ArePlaced-later, ArePlaced-more, AreTimed-later, AreTimed-now, AreTimed-then, IsBusy, IsLastTimed-now, IsOnce, all_append, busy_of, none_once, one_once, placed_after}
+use Rattle.http_sessions.proofs.TalkLemmas.{RepliesAt, Said-lost, all_replies}
+use Rattle.http_sessions.proofs.TimestampLemmas.{ArePlaced-later, ArePlaced-more, AreTimed-later, AreTimed-now, AreTimed-then, IsBusy, IsLastTimed-now, IsOnce, all_append, busy_of, none_once, one_once, placed_after, Said-busy}
 use Rattle.http_sessions.proofs.WiderLemmas.{all_wider, stops_wider}
+
+-- no items
+nil_of : {A : Type 0} (items : List A) → length items ≡ 0 → items ≡ []
+nil_of [] none = refl
+nil_of (item ∷ items) none = absurd (omega (arith, none))
 
 module _
     (IsNow IsFit : Method → List ℕ → Use → Type 0) (kind : List ℕ) (seconds : ℕ)
@@ -35,7 +40,7 @@ module _
           talk.stage ≡ stage.Busy → IsBusy kind talk sent said.exchanges said.stop said.rest said.unread →
           (part : Serves IsNow steps kind talk.begun IsEnd whole [] (Some talk.kept.items) (Some left) old new before behind) →
           IsOnce part.exchanges part.stop →
-          AreReplies next.stage sent (pending next) (all_replies kind (said.exchanges ++ part.exchanges) part.stop) →
+          RepliesAt kind next.stage sent (pending next) (said.exchanges ++ part.exchanges) part.stop →
           IsAt next.stage next.begun next.kept.items next.need (length (said.exchanges ++ part.exchanges)) part.stop part.rest left →
           Said IsFit kind (later timestamps seconds (waiting_of talk) received sent) next received sent (calls ++ (flat_map exchange_calls part.exchanges ++ stop_calls part.stop))
       extended timestamps talk next received sent left calls IsEnd whole old new before behind said is_busy busy part once replies is_at = record {
@@ -140,7 +145,7 @@ module _
             λ received sent timestamps calls said.
                 let is_busy = busy_of IsFit kind timestamps talk received sent calls busy none said in
                 extended timestamps talk next received sent left calls _ true (Some []) (Some opened.made.items) before behind said busy is_busy part (one_once part.exchanges part.stop one more)
-                (subst (λ (at : Stage). AreReplies at sent (pending next) (all_replies kind (said.exchanges ++ part.exchanges) part.stop)) (sym stage_is)
+                (subst (λ (at : Stage). RepliesAt kind at sent (pending next) (said.exchanges ++ part.exchanges) part.stop) (sym stage_is)
                 (ap (λ (l : List ℕ). sent ++ l) waits
                 ∙ made_replies talk sent left opened.made.items said.exchanges said.stop said.rest said.unread _ before behind is_busy part))
                 (subst (λ (at : Stage). IsAt at next.begun next.kept.items next.need (length (said.exchanges ++ part.exchanges)) part.stop part.rest left) (sym stage_is) (
@@ -158,7 +163,7 @@ module _
                 let same : talk.begun ≡ length (said.exchanges ++ part.exchanges) =
                 omega (arith, is_busy.count, zero_count, length-append said.exchanges part.exchanges) in
                 extended timestamps talk next received sent started.kept.items calls _ true (Some []) (Some started.made.items) before behind said busy is_busy part (none_once part.exchanges part.stop zero_count)
-                (subst (λ (at : Stage). AreReplies at sent (pending next) (all_replies kind (said.exchanges ++ part.exchanges) part.stop)) (sym stage_is)
+                (subst (λ (at : Stage). RepliesAt kind at sent (pending next) (said.exchanges ++ part.exchanges) part.stop) (sym stage_is)
                 (ap (λ (l : List ℕ). sent ++ l) waits
                 ∙ made_replies talk sent started.kept.items started.made.items said.exchanges said.stop said.rest said.unread _ before behind is_busy part))
                 (subst (λ (at : Stage). IsAt at next.begun next.kept.items next.need (length (said.exchanges ++ part.exchanges)) part.stop part.rest started.kept.items) (sym stage_is) (
@@ -176,27 +181,31 @@ module _
                 let same : talk.begun ≡ length (said.exchanges ++ part.exchanges) =
                 omega (arith, is_busy.count, zero_count, length-append said.exchanges part.exchanges) in
                 extended timestamps talk next received sent left calls _ true (Some []) (Some made.items) before behind said busy is_busy part (none_once part.exchanges part.stop zero_count)
-                (subst (λ (at : Stage). AreReplies at sent (pending next) (all_replies kind (said.exchanges ++ part.exchanges) part.stop)) (sym stage_is)
+                (subst (λ (at : Stage). RepliesAt kind at sent (pending next) (said.exchanges ++ part.exchanges) part.stop) (sym stage_is)
                 (ap (λ (l : List ℕ). sent ++ l) waits
                 ∙ made_replies talk sent left made.items said.exchanges said.stop said.rest said.unread _ before behind is_busy part))
                 (subst (λ (at : Stage). IsAt at next.begun next.kept.items next.need (length (said.exchanges ++ part.exchanges)) part.stop part.rest left) (sym stage_is)
                 (how, subst (λ (n : ℕ). Ends (n == 999) (Some left) part.stop part.rest how) same ends, one)),
           )
-      left_on talk next before behind after.Lost busy none (left, made, whole, part) (stage_is, waits) = (
-        flat_map exchange_calls part.exchanges ++ stop_calls part.stop,
-        part.calls,
+      left_on talk next before behind (after.Failed bytes) busy none (is, fails) (stage_is, waits) =
+          let (left, made, whole, part) = fails in
+          let (zero_count, one) = part.ends in (
+            flat_map exchange_calls part.exchanges ++ stop_calls part.stop,
+            part.calls,
+            λ received sent timestamps calls said.
+                let is_busy = busy_of IsFit kind timestamps talk received sent calls busy none said in
+                extended timestamps talk next received sent left calls _ _ (Some []) (Some made) before behind said busy is_busy part (none_once part.exchanges part.stop zero_count)
+                (subst (λ (at : Stage). RepliesAt kind at sent (pending next) (said.exchanges ++ part.exchanges) part.stop) (sym stage_is)
+                (ap (λ (l : List ℕ). sent ++ l) (waits ∙ is)
+                ∙ ap (λ (l : List ℕ). l ++ failure_reply)
+                (is_busy.all_sent ∙ ap (flat_map (open_reply kind))
+                (sym (append-nil said.exchanges) ∙ ap (λ (l : List Exchange). said.exchanges ++ l) (sym (nil_of part.exchanges zero_count))))))
+                (subst (λ (at : Stage). IsAt at next.begun next.kept.items next.need (length (said.exchanges ++ part.exchanges)) part.stop part.rest left) (sym stage_is) one),
+          )
+      left_on talk next before behind after.Lost busy none leads (stage_is, waits) = (
+        [],
+        leads,
         λ received sent timestamps calls said.
-            let is_busy = busy_of IsFit kind timestamps talk received sent calls busy none said in
-            let after = stop_bytes kind (length (said.exchanges ++ part.exchanges) == 999) part.stop in
-            extended timestamps talk next received sent left calls _ _ (Some []) (Some made) before behind said busy is_busy part (none_once part.exchanges part.stop part.ends)
-            (subst (λ (at : Stage). AreReplies at sent (pending next) (all_replies kind (said.exchanges ++ part.exchanges) part.stop)) (sym stage_is) (
-              waits ∙ none,
-              (
-                flat_map (open_reply kind) part.exchanges ++ after,
-                ap (λ (l : List ℕ). l ++ after) (flat_map-append (open_reply kind) said.exchanges part.exchanges)
-                    ∙ append_assoc (flat_map (open_reply kind) said.exchanges) (flat_map (open_reply kind) part.exchanges) after
-                    ∙ ap (λ (l : List ℕ). l ++ (flat_map (open_reply kind) part.exchanges ++ after)) (sym is_busy.all_sent),
-              ),
-            ))
-            (subst (λ (at : Stage). IsAt at next.begun next.kept.items next.need (length (said.exchanges ++ part.exchanges)) part.stop part.rest left) (sym stage_is) tt),
+            Said-lost IsFit kind (later timestamps seconds (waiting_of talk) received sent) talk next received sent (calls ++ [])
+            (ap phase_of busy) none stage_is (waits ∙ none) (Said-busy IsFit kind timestamps seconds talk received sent calls busy none said),
       )

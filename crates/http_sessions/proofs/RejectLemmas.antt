@@ -1,5 +1,5 @@
 -- The reply to bytes that no message begins with, as a part of a session.
-use Rattle.std.proofs.Common.{◌≡◌, ◌+◌, ◌<◌, ◌==◌, ℕ, Bool, true, false, List, [], append-nil, length, Option, None, Some, inl, inr, refl, sym, subst, ap, arith}
+use Rattle.std.proofs.Common.{◌≡◌, ◌+◌, ◌<◌, ◌==◌, ℕ, Bool, true, List, [], append-nil, length, Option, None, Some, inl, inr, refl, sym, subst, ap, arith}
 use Rattle.http_wire.specs.declared.heads.status.Status.{Status}
 use Rattle.http_desks.specs.declared.method.Method.{Method}
 use Rattle.http_desks.specs.Calls.{Call, Leads}
@@ -10,7 +10,7 @@ use Rattle.http_sessions.specs.Messages.{Exchange}
 use Rattle.http_sessions.specs.Readings.{IsRejected}
 use Rattle.http_sessions.specs.Sessions.{Writes}
 use Rattle.http_sessions.specs.Stops.{Bad, Ends, Long, Refuses, Stop, StopsAt, begun, stop_bytes, stop_calls}
-use Rattle.http_sessions.specs.Leaves.{EndsLost, EndsOver, IsRejection, Leaves, Makes}
+use Rattle.http_sessions.specs.Leaves.{EndsOver, IsRejection, Leaves, Makes}
 use Rattle.http_sessions.specs.declared.talks.outcome.After.{After}
 use Rattle.http_sessions.specs.declared.talks.outcome.After.TheVariants as after
 
@@ -80,6 +80,5 @@ module _ (IsFit : Method → List ℕ → Use → Type 0) (kind kept : List ℕ)
     rejection_leaves why (after.Over made) rejected is =
         let at = rejects_at why rejected in
         ([], made_rejection why true made.items (EndsOver start []) at is (refl, (Refused, at.ends (start == 999) (Some [])), at.one))
-    rejection_leaves why after.Lost rejected (made, part) =
-        let at = rejects_at why rejected in
-        ([], made, false, made_rejection why false made EndsLost at part refl)
+    rejection_leaves why (after.Failed made) rejected is = absurd is
+    rejection_leaves why after.Lost rejected is = refl

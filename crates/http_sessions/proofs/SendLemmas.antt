@@ -16,12 +16,12 @@ use Rattle.http_sessions.specs.declared.ends.End.{End}
 use Rattle.http_sessions.specs.declared.ends.End.TheVariants.{Cut, Finished}
 use Rattle.http_sessions.specs.Messages.{Exchange, IsExchange, IsOpen, asks_close, closing, exchange_bytes, exchange_calls, open_reply}
 use Rattle.http_sessions.specs.Stops.{Last, More, Stop, StopsAt, end_after, stop_calls}
-use Rattle.http_sessions.specs.Talks.{AreReplies, IsAt, IsSent, Said, pending}
+use Rattle.http_sessions.specs.Talks.{IsAt, IsSent, Said, pending}
 use Rattle.http_sessions.specs.declared.talks.talk.Sending.{Sending}
 use Rattle.http_sessions.specs.declared.talks.talk.Stage.{Stage}
 use Rattle.http_sessions.specs.declared.talks.talk.Stage.TheVariants as stage
 use Rattle.http_sessions.specs.declared.talks.talk.Talk.{Talk}
-use Rattle.http_sessions.proofs.TalkLemmas.{all_replies}
+use Rattle.http_sessions.proofs.TalkLemmas.{RepliesAt, all_replies}
 use Rattle.http_sessions.specs.Timestamps.{HasStart, IsAnyTime, IsAskedAt, IsLastTimed}
 use Rattle.http_sessions.proofs.TimestampLemmas.{ArePlaced-more, AreTimed-then, all_append, at_any_time}
 use Rattle.values.specs.declared.declared.Declared.{Declared}
@@ -111,7 +111,7 @@ module _
     mid_of =
         let (count, kept, (e, blocks, stop, rest, is_sent)) =
         subst (λ (at : Stage). IsAt at talk.begun talk.kept.items talk.need (length said.exchanges) said.stop said.rest said.unread) is said.is_at in
-        let replies = subst (λ (at : Stage). AreReplies at sent (pending talk) (all_replies kind said.exchanges said.stop)) is said.replies in
+        let replies = subst (λ (at : Stage). RepliesAt kind at sent (pending talk) said.exchanges said.stop) is said.replies in
         let (after, cut, exchange) = subst (λ (s : Stop). StopsAt Fits s said.rest) stop said.stops in
         let (routed, get, (sized, few, read)) = subst (Fits _ e.head.target) is_sent.used exchange.fits in (
           e,
@@ -171,7 +171,7 @@ module _
           timed = said.timed;
           last_timed = mid.began;
           placed = said.placed;
-          replies = subst (λ (at : Stage). AreReplies at sent (pending new) (all_replies kind said.exchanges (Last (used_so e (Broken all))))) (sym on)
+          replies = subst (λ (at : Stage). RepliesAt kind at sent (pending new) said.exchanges (Last (used_so e (Broken all)))) (sym on)
               (ap (λ (l : List ℕ). sent ++ l) makes_cells ∙ ap (λ (l : List ℕ). l ++ cells) mid.text
               ∙ append_assoc before (fetch_reply declared sending.closes (Broken blocks)) cells
               ∙ ap (λ (l : List ℕ). before ++ l) (sym (reply_more declared sending.closes blocks cells))
@@ -209,7 +209,7 @@ module _
       timed = said.timed;
       last_timed = mid.began;
       placed = said.placed;
-      replies = subst (λ (at : Stage). AreReplies at sent (pending new) (all_replies kind said.exchanges (Last (used_so e (Read blocks end))))) (sym over)
+      replies = subst (λ (at : Stage). RepliesAt kind at sent (pending new) said.exchanges (Last (used_so e (Read blocks end)))) (sym over)
           (ap (λ (l : List ℕ). sent ++ l) makes_cells ∙ ap (λ (l : List ℕ). l ++ made) mid.text
           ∙ append_assoc before (fetch_reply declared sending.closes (Broken blocks)) made
           ∙ ap (λ (l : List ℕ). before ++ l) (sym text)
@@ -283,7 +283,7 @@ module _
           timed = AreTimed-then kind timestamps said.exchanges (whole ∷ []) said.timed (mid.began, tt);
           last_timed = tt;
           placed = ArePlaced-more kind timestamps said.exchanges (whole ∷ []) said.placed;
-          replies = subst (λ (at : Stage). AreReplies at sent (pending new) (all_replies kind (said.exchanges ++ whole ∷ []) More)) (sym busy)
+          replies = subst (λ (at : Stage). RepliesAt kind at sent (pending new) (said.exchanges ++ whole ∷ []) More) (sym busy)
               (ap (λ (l : List ℕ). sent ++ l) makes_cells ∙ ap (λ (l : List ℕ). l ++ end) mid.text
               ∙ append_assoc before (fetch_reply declared sending.closes (Broken blocks)) end
               ∙ ap (λ (l : List ℕ). before ++ l) (sym (reply_last declared sending.closes blocks end agreed))

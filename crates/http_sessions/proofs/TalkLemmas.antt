@@ -1,5 +1,5 @@
 -- What is said on a connection, after more bytes were sent or came, or memory ran out.
-use Rattle.std.proofs.Common.{◌≡◌, ◌∙◌, ◌+◌, ◌-◌, ◌==◌, ◌++◌, ◌<◌, ℕ, List, [], ◌∷◌, append-nil, append_assoc, length, length-drop, take, drop, refl, sym, subst, ap, arith}
+use Rattle.std.proofs.Common.{◌≡◌, ◌⊎◌, ◌∙◌, ◌+◌, ◌-◌, ◌==◌, ◌++◌, ◌<◌, ℕ, List, [], ◌∷◌, append-nil, append_assoc, inl, inr, length, length-append, length-drop, take, drop, refl, sym, subst, ap, arith}
 use Rattle.std.specs.Prelude.{flat_map}
 use Rattle.std.proofs.Math.Seq.{take-append_seam}
 use Rattle.std.proofs.lemmas.List.{take_all}
@@ -10,7 +10,7 @@ use Rattle.http_desks.specs.Uses.{Use}
 use Rattle.http_sessions.specs.Messages.{Exchange, exchange_bytes, exchange_calls, open_reply}
 use Rattle.http_sessions.specs.Readings.{IsPart}
 use Rattle.http_sessions.specs.Stops.{More, Stop, Waits, stop_bytes, stop_calls}
-use Rattle.http_ports.specs.Speech.{Waiting}
+use Rattle.http_ports.specs.Speech.{Busy, Waiting}
 use Rattle.http_ports.specs.declared.timestamp.Timestamp.{Timestamp}
 use Rattle.http_sessions.specs.Talks.{AreReplies, IsAt, Said, StaysPart, pending, phase_of}
 use Rattle.http_sessions.specs.declared.talks.talk.Stage.{Stage}
@@ -21,30 +21,59 @@ use Rattle.http_sessions.specs.declared.talks.talk.Talk.{Talk}
 abbrev pub all_replies : List ℕ → List Exchange → Stop → List ℕ
 all_replies kind exchanges stop = flat_map (open_reply kind) exchanges ++ stop_bytes kind (length exchanges == 999) stop
 
+-- what was sent and is pending are the replies to them, at this stage
+abbrev pub RepliesAt : List ℕ → Stage → List ℕ → List ℕ → List Exchange → Stop → Type 0
+RepliesAt kind at sent waits exchanges stop =
+    AreReplies at sent waits (flat_map (open_reply kind) exchanges) (stop_bytes kind (length exchanges == 999) stop)
+
 -- of what is pending a first part was sent
 pub AreReplies-sent :
-    (at : Stage) (sent waits left replies first : List ℕ) →
-    waits ≡ first ++ left → AreReplies at sent waits replies → AreReplies at (sent ++ first) left replies
-AreReplies-sent stage.Busy sent waits left replies first cut is =
+    (at : Stage) (sent waits left earlier last first : List ℕ) →
+    waits ≡ first ++ left → AreReplies at sent waits earlier last → AreReplies at (sent ++ first) left earlier last
+AreReplies-sent stage.Busy sent waits left earlier last first cut is =
     append_assoc sent first left ∙ ap (λ (l : List ℕ). sent ++ l) (sym cut) ∙ is
-AreReplies-sent stage.Part sent waits left replies first cut is =
+AreReplies-sent stage.Part sent waits left earlier last first cut is =
     append_assoc sent first left ∙ ap (λ (l : List ℕ). sent ++ l) (sym cut) ∙ is
-AreReplies-sent (stage.Sends sending) sent waits left replies first cut is =
+AreReplies-sent (stage.Sends sending) sent waits left earlier last first cut is =
     append_assoc sent first left ∙ ap (λ (l : List ℕ). sent ++ l) (sym cut) ∙ is
-AreReplies-sent stage.Over sent waits left replies first cut is =
+AreReplies-sent stage.Over sent waits left earlier last first cut is =
     append_assoc sent first left ∙ ap (λ (l : List ℕ). sent ++ l) (sym cut) ∙ is
-AreReplies-sent stage.Lost sent waits left replies [] cut (none, (rest, is)) =
-    (sym cut ∙ none, (rest, is ∙ ap (λ (l : List ℕ). l ++ rest) (sym (append-nil sent))))
-AreReplies-sent stage.Lost sent waits left replies (byte ∷ first) cut (none, (rest, is)) = absurd (grind (arith, cut, none))
+AreReplies-sent stage.Failed sent waits left earlier last first cut is =
+    append_assoc sent first left ∙ ap (λ (l : List ℕ). sent ++ l) (sym cut) ∙ is
+AreReplies-sent stage.Lost sent waits left earlier last [] cut (none, (rest, is), heard) =
+    let same = append-nil sent in (
+      sym cut ∙ none,
+      (rest, is ∙ ap (λ (l : List ℕ). l ++ rest) (sym same)),
+      subst (λ (l : List ℕ). (last ≡ []) ⊎ (length earlier < length l)) (sym same) heard,
+    )
+AreReplies-sent stage.Lost sent waits left earlier last (byte ∷ first) cut (none, rest, heard) = absurd (grind (arith, cut, none))
 
--- what was sent is a first part of the replies
-pub sent_part :
-    (at : Stage) (sent waits replies : List ℕ) → AreReplies at sent waits replies → (left : List ℕ) × (replies ≡ sent ++ left)
-sent_part stage.Busy sent waits replies is = (waits, sym is)
-sent_part stage.Part sent waits replies is = (waits, sym is)
-sent_part (stage.Sends sending) sent waits replies is = (waits, sym is)
-sent_part stage.Over sent waits replies is = (waits, sym is)
-sent_part stage.Lost sent waits replies (none, left) = left
+-- some of the last reply was sent, if it has any bytes and all replies were
+heard_of :
+    (earlier last sent : List ℕ) → earlier ++ last ≡ sent → (last ≡ []) ⊎ (0 < length last) →
+    (last ≡ []) ⊎ (length earlier < length sent)
+heard_of earlier last sent all (inl none) = inl none
+heard_of earlier last sent all (inr some) = inr (omega (arith, length-append earlier last, some, ap length all))
+
+-- a list has items, or none
+none_or_some : (bytes : List ℕ) → (bytes ≡ []) ⊎ (0 < length bytes)
+none_or_some [] = inl refl
+none_or_some (byte ∷ bytes) = inr (omega arith)
+
+-- a busy connection that was given up: a first part of the replies was sent, and some of the last one
+AreReplies-given_up :
+    (at : Stage) (sent waits earlier last : List ℕ) → phase_of at ≡ Busy → waits ≡ [] →
+    (last ≡ []) ⊎ (0 < length last) → AreReplies at sent waits earlier last → AreReplies stage.Lost sent [] earlier last
+AreReplies-given_up stage.Busy sent waits earlier last busy none ends is =
+    let all : earlier ++ last ≡ sent = sym is ∙ ap (λ (l : List ℕ). sent ++ l) none ∙ append-nil sent in
+    (refl, ([], all ∙ sym (append-nil sent)), heard_of earlier last sent all ends)
+AreReplies-given_up stage.Part sent waits earlier last busy none ends is = absurd (grind (arith, busy))
+AreReplies-given_up (stage.Sends sending) sent waits earlier last busy none ends is =
+    let all : earlier ++ last ≡ sent = sym is ∙ ap (λ (l : List ℕ). sent ++ l) none ∙ append-nil sent in
+    (refl, ([], all ∙ sym (append-nil sent)), heard_of earlier last sent all ends)
+AreReplies-given_up stage.Over sent waits earlier last busy none ends is = absurd (grind (arith, busy))
+AreReplies-given_up stage.Failed sent waits earlier last busy none ends is = absurd (grind (arith, busy))
+AreReplies-given_up stage.Lost sent waits earlier last busy none ends is = absurd (grind (arith, busy))
 
 -- a connection that waits for bytes has a part of a message
 pub part_of : (at : Stage) → phase_of at ≡ Waiting → at ≡ stage.Part
@@ -52,6 +81,7 @@ part_of stage.Busy is = absurd (grind (arith, is))
 part_of stage.Part is = refl
 part_of (stage.Sends sending) is = absurd (grind (arith, is))
 part_of stage.Over is = absurd (grind (arith, is))
+part_of stage.Failed is = absurd (grind (arith, is))
 part_of stage.Lost is = absurd (grind (arith, is))
 
 pub drop-cut : (bytes : List ℕ) (at count : ℕ) → drop at bytes ≡ take count (drop at bytes) ++ drop (at + count) bytes
@@ -82,7 +112,7 @@ Said-nothing IsFit kind talk busy none empty waits = record {
   timed = tt;
   last_timed = tt;
   placed = tt;
-  replies = subst (λ (at : Stage). AreReplies at [] (pending talk) []) (sym busy) waits;
+  replies = subst (λ (at : Stage). AreReplies at [] (pending talk) [] []) (sym busy) waits;
   is_at = subst (λ (at : Stage). IsAt at talk.begun talk.kept.items talk.need 0 More [] []) (sym busy) (refl, none, empty);
 }
 
@@ -106,19 +136,20 @@ module _ (IsFit : Method → List ℕ → Use → Type 0) (kind : List ℕ) (tim
     timed = said.timed;
     last_timed = said.last_timed;
     placed = said.placed;
-    replies = subst (λ (at : Stage). AreReplies at (sent ++ first) (pending next) (all_replies kind said.exchanges said.stop)) (sym same)
-        (AreReplies-sent talk.stage sent (pending talk) (pending next) _ first cut said.replies);
+    replies = subst (λ (at : Stage). RepliesAt kind at (sent ++ first) (pending next) said.exchanges said.stop) (sym same)
+        (AreReplies-sent talk.stage sent (pending talk) (pending next) _ _ first cut said.replies);
     is_at = subst (λ (at : Stage). IsAt at next.begun next.kept.items next.need (length said.exchanges) said.stop said.rest said.unread) (sym same)
         (subst (λ (n : ℕ). IsAt talk.stage n next.kept.items next.need (length said.exchanges) said.stop said.rest said.unread) (sym begun)
         (subst (λ (l : List ℕ). IsAt talk.stage talk.begun l next.need (length said.exchanges) said.stop said.rest said.unread) (sym kept)
         (subst (λ (n : ℕ). IsAt talk.stage talk.begun talk.kept.items n (length said.exchanges) said.stop said.rest said.unread) (sym needs) said.is_at)));
   }
 
-  -- memory ran out, and nothing passed
+  -- a busy connection is given up, and nothing passed
   pub Said-lost :
-      (talk next : Talk) (received sent : List ℕ) (calls : List Call) → next.stage ≡ stage.Lost → pending next ≡ [] →
+      (talk next : Talk) (received sent : List ℕ) (calls : List Call) → phase_of talk.stage ≡ Busy → pending talk ≡ [] →
+      next.stage ≡ stage.Lost → pending next ≡ [] →
       Said IsFit kind timestamps talk received sent calls → Said IsFit kind timestamps next received sent calls
-  Said-lost talk next received sent calls is none said = record {
+  Said-lost talk next received sent calls busy over is none said = record {
     exchanges = said.exchanges;
     stop = said.stop;
     rest = said.rest;
@@ -131,8 +162,9 @@ module _ (IsFit : Method → List ℕ → Use → Type 0) (kind : List ℕ) (tim
     timed = said.timed;
     last_timed = said.last_timed;
     placed = said.placed;
-    replies = subst (λ (at : Stage). AreReplies at sent (pending next) (all_replies kind said.exchanges said.stop)) (sym is)
-        (none, sent_part talk.stage sent (pending talk) _ said.replies);
+    replies = subst (λ (at : Stage). RepliesAt kind at sent (pending next) said.exchanges said.stop) (sym is)
+        (subst (λ (waits : List ℕ). RepliesAt kind stage.Lost sent waits said.exchanges said.stop) (sym none)
+        (AreReplies-given_up talk.stage sent (pending talk) _ _ busy over (none_or_some _) said.replies));
     is_at = subst (λ (at : Stage). IsAt at next.begun next.kept.items next.need (length said.exchanges) said.stop said.rest said.unread) (sym is) tt;
   }
 
@@ -145,7 +177,7 @@ module _ (IsFit : Method → List ℕ → Use → Type 0) (kind : List ℕ) (tim
   Said-came talk next received sent bytes calls part busy begun kept waits said =
       let (stop, count, rest, none, stays) =
       subst (λ (at : Stage). IsAt at talk.begun talk.kept.items talk.need (length said.exchanges) said.stop said.rest said.unread) part said.is_at in
-      let replies = subst (λ (at : Stage). AreReplies at sent (pending talk) (all_replies kind said.exchanges said.stop)) part said.replies in
+      let replies = subst (λ (at : Stage). RepliesAt kind at sent (pending talk) said.exchanges said.stop) part said.replies in
       record {
         exchanges = said.exchanges;
         stop = More;
@@ -163,7 +195,7 @@ module _ (IsFit : Method → List ℕ → Use → Type 0) (kind : List ℕ) (tim
         timed = said.timed;
         last_timed = tt;
         placed = said.placed;
-        replies = subst (λ (at : Stage). AreReplies at sent (pending next) (flat_map (open_reply kind) said.exchanges ++ [])) (sym busy)
+        replies = subst (λ (at : Stage). AreReplies at sent (pending next) (flat_map (open_reply kind) said.exchanges) []) (sym busy)
             (ap (λ (l : List ℕ). sent ++ l) waits ∙ replies ∙ ap (all_replies kind said.exchanges) stop);
         is_at = subst (λ (at : Stage). IsAt at next.begun next.kept.items next.need (length said.exchanges) More (said.rest ++ bytes) []) (sym busy)
             (refl, begun ∙ count, kept ∙ ap (λ (l : List ℕ). l ++ bytes) rest ∙ sym (append-nil (said.rest ++ bytes)));
@@ -179,7 +211,7 @@ module _ (IsFit : Method → List ℕ → Use → Type 0) (kind : List ℕ) (tim
   Said-came_part talk next received sent bytes calls part still begun kept needs waits less said =
       let (stop, count, rest, none, stays) =
       subst (λ (at : Stage). IsAt at talk.begun talk.kept.items talk.need (length said.exchanges) said.stop said.rest said.unread) part said.is_at in
-      let replies = subst (λ (at : Stage). AreReplies at sent (pending talk) (all_replies kind said.exchanges said.stop)) part said.replies in
+      let replies = subst (λ (at : Stage). RepliesAt kind at sent (pending talk) said.exchanges said.stop) part said.replies in
       record {
         exchanges = said.exchanges;
         stop = Waits;
@@ -197,7 +229,7 @@ module _ (IsFit : Method → List ℕ → Use → Type 0) (kind : List ℕ) (tim
         timed = said.timed;
         last_timed = tt;
         placed = said.placed;
-        replies = subst (λ (at : Stage). AreReplies at sent (pending next) (flat_map (open_reply kind) said.exchanges ++ [])) (sym still)
+        replies = subst (λ (at : Stage). AreReplies at sent (pending next) (flat_map (open_reply kind) said.exchanges) []) (sym still)
             (ap (λ (l : List ℕ). sent ++ l) waits ∙ replies ∙ ap (all_replies kind said.exchanges) stop);
         is_at = subst (λ (at : Stage). IsAt at next.begun next.kept.items next.need (length said.exchanges) Waits (said.rest ++ bytes) []) (sym still) (
           refl,
@@ -220,7 +252,7 @@ module _ (IsFit : Method → List ℕ → Use → Type 0) (kind : List ℕ) (tim
   Said-part talk next received sent calls busy part begun kept waits is_part stays said =
       let (stop, count, all) =
       subst (λ (at : Stage). IsAt at talk.begun talk.kept.items talk.need (length said.exchanges) said.stop said.rest said.unread) busy said.is_at in
-      let replies = subst (λ (at : Stage). AreReplies at sent (pending talk) (all_replies kind said.exchanges said.stop)) busy said.replies in
+      let replies = subst (λ (at : Stage). RepliesAt kind at sent (pending talk) said.exchanges said.stop) busy said.replies in
       record {
         exchanges = said.exchanges;
         stop = Waits;
@@ -234,7 +266,7 @@ module _ (IsFit : Method → List ℕ → Use → Type 0) (kind : List ℕ) (tim
         timed = said.timed;
         last_timed = tt;
         placed = said.placed;
-        replies = subst (λ (at : Stage). AreReplies at sent (pending next) (flat_map (open_reply kind) said.exchanges ++ [])) (sym part)
+        replies = subst (λ (at : Stage). AreReplies at sent (pending next) (flat_map (open_reply kind) said.exchanges) []) (sym part)
             (ap (λ (l : List ℕ). sent ++ l) waits ∙ replies ∙ ap (all_replies kind said.exchanges) stop);
         is_at = subst (λ (at : Stage). IsAt at next.begun next.kept.items next.need (length said.exchanges) Waits (said.rest ++ said.unread) []) (sym part)
             (refl, begun ∙ count, kept ∙ all, refl, stays);
@@ -245,22 +277,26 @@ module _ (IsFit : Method → List ℕ → Use → Type 0) (kind : List ℕ) (tim
       (talk next : Talk) (received sent bytes : List ℕ) (calls : List Call) →
       talk.stage ≡ stage.Part → next.stage ≡ stage.Lost → pending next ≡ [] →
       Said IsFit kind timestamps talk received sent calls → Said IsFit kind timestamps next (received ++ bytes) sent calls
-  Said-came_lost talk next received sent bytes calls part is none said = record {
-    exchanges = said.exchanges;
-    stop = said.stop;
-    rest = said.rest;
-    unread = said.unread ++ bytes;
-    cut = ap (λ (l : List ℕ). l ++ bytes) said.cut
-        ∙ append_assoc (flat_map exchange_bytes said.exchanges) (said.rest ++ said.unread) bytes
-        ∙ ap (λ (l : List ℕ). flat_map exchange_bytes said.exchanges ++ l) (append_assoc said.rest said.unread bytes);
-    each = said.each;
-    few = said.few;
-    stops = said.stops;
-    called = said.called;
-    timed = said.timed;
-    last_timed = said.last_timed;
-    placed = said.placed;
-    replies = subst (λ (at : Stage). AreReplies at sent (pending next) (all_replies kind said.exchanges said.stop)) (sym is)
-        (none, sent_part talk.stage sent (pending talk) _ said.replies);
-    is_at = subst (λ (at : Stage). IsAt at next.begun next.kept.items next.need (length said.exchanges) said.stop said.rest (said.unread ++ bytes)) (sym is) tt;
-  }
+  Said-came_lost talk next received sent bytes calls part is none said =
+      let (waits, count, rest, empty, stays) =
+      subst (λ (at : Stage). IsAt at talk.begun talk.kept.items talk.need (length said.exchanges) said.stop said.rest said.unread) part said.is_at in
+      let replies = subst (λ (at : Stage). RepliesAt kind at sent (pending talk) said.exchanges said.stop) part said.replies in
+      record {
+        exchanges = said.exchanges;
+        stop = said.stop;
+        rest = said.rest;
+        unread = said.unread ++ bytes;
+        cut = ap (λ (l : List ℕ). l ++ bytes) said.cut
+            ∙ append_assoc (flat_map exchange_bytes said.exchanges) (said.rest ++ said.unread) bytes
+            ∙ ap (λ (l : List ℕ). flat_map exchange_bytes said.exchanges ++ l) (append_assoc said.rest said.unread bytes);
+        each = said.each;
+        few = said.few;
+        stops = said.stops;
+        called = said.called;
+        timed = said.timed;
+        last_timed = said.last_timed;
+        placed = said.placed;
+        replies = subst (λ (at : Stage). RepliesAt kind at sent (pending next) said.exchanges said.stop) (sym is)
+            (none, (pending talk, sym replies), inl (ap (stop_bytes kind (length said.exchanges == 999)) waits));
+        is_at = subst (λ (at : Stage). IsAt at next.begun next.kept.items next.need (length said.exchanges) said.stop said.rest (said.unread ++ bytes)) (sym is) tt;
+      }

@@ -11,11 +11,11 @@ use Rattle.http_ports.specs.declared.timestamp.Timestamp.{Timestamp}
 use Rattle.http_sessions.specs.Messages.{Exchange, IsOpen, exchange_bytes, open_reply}
 use Rattle.http_sessions.specs.Stops.{Bad, Last, Long, More, Refuses, Stop, StopsAt, Waits}
 use Rattle.http_sessions.specs.Timestamps.{ArePlaced, AreTimed, HasStart, IsAnyTime, IsAskedAt, IsLastTimed, IsPlaced}
-use Rattle.http_sessions.specs.Talks.{AreReplies, IsAt, Said, pending, waiting_at, waiting_of}
+use Rattle.http_sessions.specs.Talks.{IsAt, Said, pending, waiting_at, waiting_of}
 use Rattle.http_sessions.specs.declared.talks.talk.Stage.{Stage}
 use Rattle.http_sessions.specs.declared.talks.talk.Stage.TheVariants as stage
 use Rattle.http_sessions.specs.declared.talks.talk.Talk.{Talk}
-use Rattle.http_sessions.proofs.TalkLemmas.{all_replies}
+use Rattle.http_sessions.proofs.TalkLemmas.{RepliesAt, all_replies}
 
 pub all_append :
     {A : Type 0} (Holds : A → Type 0) (first second : List A) →
@@ -39,7 +39,7 @@ module _ (IsFit : Method → List ℕ → Use → Type 0) (kind : List ℕ) wher
   busy_of timestamps talk received sent calls busy none said =
       let (stop, count, kept) =
       subst (λ (at : Stage). IsAt at talk.begun talk.kept.items talk.need (length said.exchanges) said.stop said.rest said.unread) busy said.is_at in
-      let replies = subst (λ (at : Stage). AreReplies at sent (pending talk) (all_replies kind said.exchanges said.stop)) busy said.replies in
+      let replies = subst (λ (at : Stage). RepliesAt kind at sent (pending talk) said.exchanges said.stop) busy said.replies in
       record {
         stopped = stop;
         count = count;

@@ -7,11 +7,10 @@ use Rattle.http_desks.specs.Uses.{Use}
 use Rattle.http_sessions.specs.Messages.{Exchange, IsExchange, IsOpen}
 use Rattle.http_sessions.specs.Readings.{IsPart}
 use Rattle.http_sessions.specs.Stops.{Bad, Last, Long, More, Refuses, Stop, StopsAt, Waits}
-use Rattle.http_sessions.specs.Leaves.{AtOnce, EndsAnyhow, IsApplied, Leaves, Makes, MakesAtOnce}
+use Rattle.http_sessions.specs.Leaves.{AtOnce, EndsAnyhow, GivesUp, IsApplied, Leaves, Makes, MakesAtOnce}
 use Rattle.http_sessions.specs.Talks.{is_lost, pending}
 use Rattle.http_sessions.specs.declared.talks.outcome.After.{After}
 use Rattle.http_sessions.specs.declared.talks.outcome.After.TheVariants as after
-use Rattle.http_sessions.specs.declared.talks.talk.Stage.TheVariants as stage
 use Rattle.http_sessions.specs.declared.talks.talk.Talk.{Talk}
 
 -- uses that fit, of which each fits otherwise, too
@@ -77,6 +76,8 @@ module _ (IsFit : Method → List ℕ → Use → Type 0) where
       subst (λ (made : List ℕ). Makes (AtOnce IsFit) steps kind start EndsAnyhow true kept rest made before behind) (sym waits)
           (anyhow (AtOnce IsFit) _ rest made.items part),
     )
+    made_at_once old mid (after.Failed bytes) part (stage_is, waits) kept_on =
+        let lost : ◌≡◌ {A = Bool} true false = sym (ap is_lost stage_is) ∙ kept_on in cc
     made_at_once old mid after.Lost part (stage_is, waits) kept_on =
         let lost : ◌≡◌ {A = Bool} true false = sym (ap is_lost stage_is) ∙ kept_on in cc
 
@@ -84,7 +85,7 @@ module _ (IsFit : Method → List ℕ → Use → Type 0) where
   pub steps_at_once :
       {D : Type 0} (steps : D → Call → D → Type 0) (kind : List ℕ) (old mid new : Talk) (before behind : D) (left : After) →
       Leaves (AtOnce IsFit) steps kind old.begun old.kept.items before behind left → IsApplied old left mid →
-      (new ≡ mid) ⊎ ((new.stage ≡ stage.Lost) × (pending new ≡ [])) →
+      (new ≡ mid) ⊎ GivesUp mid new →
       MakesAtOnce IsFit steps kind old before new behind
   steps_at_once steps kind old mid new before behind left leaves applied (inl same) = λ busy kept_on.
       let (rest, part) =
@@ -94,8 +95,8 @@ module _ (IsFit : Method → List ℕ → Use → Type 0) where
         subst (λ (made : List ℕ). Makes (AtOnce IsFit) steps kind old.begun EndsAnyhow true old.kept.items rest made before behind)
             (ap pending (sym same)) part,
       )
-  steps_at_once steps kind old mid new before behind left leaves applied (inr (is, none)) = λ busy kept_on.
-      let lost : ◌≡◌ {A = Bool} true false = sym (ap is_lost is) ∙ kept_on in cc
+  steps_at_once steps kind old mid new before behind left leaves applied (inr gives_up) = λ busy kept_on.
+      let lost : ◌≡◌ {A = Bool} true false = sym (ap is_lost gives_up.lost) ∙ kept_on in cc
 
   -- what is kept is less than a message
   pub part_at_once :

@@ -1,7 +1,6 @@
 -- What a reply leaves of a connection; this project's profile.
 use Rattle.std.specs.Prelude.{◌≡◌, ⊤, ◌+◌, ◌==◌, ℕ, Bool, true, false, List, [], ◌++◌, None, Some}
 use Rattle.http_wire.specs.declared.heads.status.Status.{Status}
-use Rattle.http_wire.specs.Sending.{AppendsPart}
 use Rattle.http_desks.specs.declared.method.Method.{Method}
 use Rattle.http_desks.specs.Begins.{IsAtOnce}
 use Rattle.http_desks.specs.Calls.{Call, Leads}
@@ -14,9 +13,10 @@ use Rattle.values.specs.declared.declared.Declared.{Declared}
 use Rattle.http_sessions.specs.declared.ends.End.{End}
 use Rattle.http_sessions.specs.Stops.{Ends, More, Stop, begun, end_after}
 use Rattle.http_sessions.specs.Sessions.{Serves}
+use Rattle.http_ports.specs.Speech.{Busy}
 use Rattle.http_ports.specs.Traffic.{later}
 use Rattle.http_ports.specs.declared.timestamp.Timestamp.{Timestamp}
-use Rattle.http_sessions.specs.Talks.{Said, SendsFor, is_lost, pending, waiting_of}
+use Rattle.http_sessions.specs.Talks.{Said, SendsFor, failure_reply, is_lost, pending, phase_of, waiting_of}
 use Rattle.http_sessions.specs.declared.talks.outcome.After.{After}
 use Rattle.http_sessions.specs.declared.talks.outcome.After.TheVariants as after
 use Rattle.http_sessions.specs.declared.talks.outcome.Opened.{Opened}
@@ -41,7 +41,8 @@ IsDone start handled closes left made (after.Open opened) =
 IsDone start handled closes left made (after.Sends started) = ⊥
 IsDone start handled closes left made (after.Over bytes) =
     ((how : End) × (end_after closes (Some handled) ≡ Some how)) × (bytes.items ≡ made)
-IsDone start handled closes left made after.Lost = ⊤
+IsDone start handled closes left made (after.Failed bytes) = ⊥
+IsDone start handled closes left made after.Lost = ⊥
 
 -- what the head of a package leaves, after so many other replies
 abbrev pub IsStarted : ℕ → Sending → List ℕ → List ℕ → After → Type 0
@@ -50,7 +51,8 @@ IsStarted start sending left made (after.Sends started) =
     (started.sending ≡ sending) × (sending.closes ≡ false → started.begun ≡ start + 1) × (started.kept.items ≡ left)
     × (started.made.items ≡ made)
 IsStarted start sending left made (after.Over bytes) = ⊥
-IsStarted start sending left made after.Lost = ⊤
+IsStarted start sending left made (after.Failed bytes) = ⊥
+IsStarted start sending left made after.Lost = ⊥
 
 -- a part of a session over the bytes that are kept, after so many messages: what it leaves, what it made, and how it ends
 abbrev pub Makes :
@@ -75,22 +77,29 @@ abbrev pub EndsOver : ℕ → List ℕ → ℕ → Stop → List ℕ → Type 0
 EndsOver start left count stop rest =
     (count ≡ 0) × ((how : End) × Ends (start == 999) (Some left) stop rest how) × (begun stop ≡ 1)
 
--- with a message whose reply was not made
-abbrev pub EndsLost : ℕ → Stop → List ℕ → Type 0
-EndsLost count stop rest = count ≡ 0
+-- with a message whose reply was not made, or not sent
+abbrev pub EndsFailed : ℕ → Stop → List ℕ → Type 0
+EndsFailed count stop rest = (count ≡ 0) × (begun stop ≡ 1)
 
 -- anyhow
 abbrev pub EndsAnyhow : ℕ → Stop → List ℕ → Type 0
 EndsAnyhow count stop rest = ⊤
 
--- what the reply leaves that rejects a message; if memory ran out, a first part of it was made
+-- what the reply leaves that rejects a message, unless memory ran out
 abbrev pub IsRejection : Status → After → Type 0
 IsRejection why (after.Open opened) = ⊥
 IsRejection why (after.Sends started) = ⊥
 IsRejection why (after.Over made) = made.items ≡ empty_reply why None true
-IsRejection why after.Lost = (made : List ℕ) × AppendsPart (Some []) (Some made) (empty_reply why None true)
+IsRejection why (after.Failed made) = ⊥
+IsRejection why after.Lost = ⊤
 
--- what a part of a session leaves
+-- a part of a session whose last reply was not made, or is not sent
+abbrev pub Fails :
+    {D : Type 0} → (Method → List ℕ → Use → Type 0) → (D → Call → D → Type 0) → List ℕ → ℕ → List ℕ → D → D → Type 0
+Fails IsFit steps kind start kept before behind =
+    (left : List ℕ) × (made : List ℕ) × (whole : Bool) × Makes IsFit steps kind start EndsFailed whole kept left made before behind
+
+-- what a part of a session leaves; if memory ran out before the desk was called, no part
 abbrev pub Leaves :
     {D : Type 0} → (Method → List ℕ → Use → Type 0) → (D → Call → D → Type 0) → List ℕ → ℕ → List ℕ → D → D → After → Type 0
 Leaves IsFit steps kind start kept before behind (after.Open opened) =
@@ -99,8 +108,9 @@ Leaves IsFit steps kind start kept before behind (after.Sends started) =
     Makes IsFit steps kind start (EndsSending start started) true kept started.kept.items started.made.items before behind
 Leaves IsFit steps kind start kept before behind (after.Over made) =
     (left : List ℕ) × Makes IsFit steps kind start (EndsOver start left) true kept left made.items before behind
-Leaves IsFit steps kind start kept before behind after.Lost =
-    (left : List ℕ) × (made : List ℕ) × (whole : Bool) × Makes IsFit steps kind start EndsLost whole kept left made before behind
+Leaves IsFit steps kind start kept before behind (after.Failed bytes) =
+    (bytes.items ≡ failure_reply) × Fails IsFit steps kind start kept before behind
+Leaves IsFit steps kind start kept before behind after.Lost = Leads steps before [] behind
 
 -- the use fits, and no block is sent of a package with bytes
 abbrev pub AtOnce : (Method → List ℕ → Use → Type 0) → Method → List ℕ → Use → Type 0
@@ -115,7 +125,15 @@ IsApplied old (after.Sends started) new =
     (new.stage ≡ stage.Sends started.sending) × (new.begun ≡ started.begun) × (new.kept.items ≡ started.kept.items)
     × (pending new ≡ started.made.items)
 IsApplied old (after.Over made) new = (new.stage ≡ stage.Over) × (pending new ≡ made.items)
+IsApplied old (after.Failed made) new = (new.stage ≡ stage.Failed) × (pending new ≡ made.items)
 IsApplied old after.Lost new = (new.stage ≡ stage.Lost) × (pending new ≡ pending old)
+
+-- a busy connection of which nothing is pending is given up
+pub record GivesUp (old new : Talk) : Type 0 where
+  pub busy : phase_of old.stage ≡ Busy
+  pub none : pending old ≡ []
+  pub lost : new.stage ≡ stage.Lost
+  pub silent : pending new ≡ []
 
 -- the desk was called at this timestamp, and what is said then is what was said before, and for these calls
 abbrev pub GoesOn :

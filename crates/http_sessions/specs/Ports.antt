@@ -34,8 +34,8 @@ pub record Passage : Type 0 where
 
 -- rule: Sessions of a port
 -- each connection that was accepted has ended. What was sent on it is the replies to the messages in what was received,
--- in order: all of them, or a first part if its peer took no more or memory ran out. The desk was called for just these
--- messages, in one order for all connections
+-- in order: all of them, or a first part if its peer took no more or memory ran out, maybe with another last one. The desk
+-- was called for just these messages, in one order for all connections
 abbrev pub HasTalked :
     {D : Type 0} → (Method → List ℕ → Use → Type 0) → List ℕ → (D → Call → D → Type 0) → D → D → Passage → Type 0
 HasTalked IsFit kind steps start end passage =

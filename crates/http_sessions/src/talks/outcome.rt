@@ -32,6 +32,8 @@ pub(crate) enum After {
     Sends(Started),
     // It has ended, and this was made.
     Over(Vec<u8>),
-    // Memory ran out.
+    // Memory ran out for the reply, and this was made in its place.
+    Failed(Vec<u8>),
+    // Memory ran out before the desk was called.
     Lost,
 }

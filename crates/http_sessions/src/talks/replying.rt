@@ -1,9 +1,11 @@
 // The reply to a whole message of a connection, or to bytes that no message begins with.
 
-ghost use Rattle.std.specs.Prelude.{◌≡◌, ◌<◌, ◌==◌, ◌||◌, false, IfOk};
+ghost use Rattle.std.specs.Prelude.{◌≡◌, ◌<◌, ◌==◌, ◌||◌, [], None, true, false, IfOk, IfSome};
+ghost use Rattle.http_desks.specs.Replies.{empty_reply};
 ghost use Rattle.http_desks.specs.Uses.{IsUse};
 ghost use Rattle.http_sessions.specs.Readings.{IsFound};
 ghost use Rattle.http_sessions.specs.Leaves.{AtOnce, IsDone, IsNew, IsRejection, IsStarted, Leaves};
+ghost use Rattle.http_sessions.specs.Talks.{failure_reply};
 
 use crate::buffers::Buffers;
 use crate::foreseeing::Found;
@@ -18,6 +20,9 @@ use http_wire::Status;
 use std::alloc::{AllocError, Global};
 use streams::Trace;
 
+// How many bytes of a reply there is room for before the desk is called, so that a line as `edition 2` takes no more memory.
+const SHORT: usize = 512;
+
 // Whether the connection ends after the reply to a message, after so many others.
 fn closes_after(closes: bool, begun: u32) -> bool
     requires { begun < 1000 }
@@ -27,29 +32,65 @@ fn closes_after(closes: bool, begun: u32) -> bool
     closes || begun == MAX_MESSAGES - 1
 }
 
-// What is left after a reply that is written.
-fn done_after(
-    alloc: Global,
-    begun: u32,
-    handled: Handled,
-    closes: bool,
-    left: &[u8],
+// The reply without a body, after which the connection ends, or `None` if memory runs out.
+fn last_reply(alloc: Global, room: &mut Buffers, status: Status) -> Option<Vec<u8>>
+    ensures { IfSome result (λ made. made.items ≡ empty_reply status None true) }
+{
+    let mut sink = Made {
+        bytes: Vec::new(alloc),
+        failures: Trace::new(),
+    };
+    match send_empty(&mut sink, room.block(), status, None, true) {
+        Ok(()) => Some(sink.bytes),
+        Err(_) => None,
+    }
+}
+
+// The memory without which the desk isn't called.
+#[derive(Drop)]
+struct Ready {
+    // the reply if no more is found
+    failure: Vec<u8>,
+    // what is kept after the message
+    kept: Vec<u8>,
+    // room for a short reply
     made: Vec<u8>,
-) -> After
+}
+
+// rule: Reply without memory
+// Takes the memory without which the desk isn't called, or returns `None` if there is too little.
+fn make_ready(alloc: Global, room: &mut Buffers, left: &[u8]) -> Option<Ready>
+    ensures failure { IfSome result (λ ready. ready.failure.items ≡ failure_reply) }
+    ensures kept { IfSome result (λ ready. ready.kept.items ≡ left.now) }
+    ensures made { IfSome result (λ ready. ready.made.items ≡ []) }
+{
+    let failure = last_reply(alloc, room, Status::InternalServerError)?;
+    let Ok(kept) = Vec::from_slice(alloc, left) else {
+        return None;
+    };
+    match Vec::with_capacity(alloc, SHORT) {
+        Ok(made) => Some(Ready {
+            failure,
+            kept,
+            made,
+        }),
+        Err(_) => None,
+    }
+}
+
+// What is left after a reply that is written.
+fn done_after(begun: u32, handled: Handled, closes: bool, kept: Vec<u8>, made: Vec<u8>) -> After
     requires { closes ≡ false → begun < 999 }
-    ensures { IsDone begun handled closes left.now made.items result }
+    ensures { IsDone begun handled closes kept.items made.items result }
 {
     if closes || handled != Handled::Answered {
         return After::Over(made);
     }
-    match Vec::from_slice(alloc, left) {
-        Ok(kept) => After::Open(Opened {
-            begun: begun + 1,
-            kept,
-            made,
-        }),
-        Err(_) => After::Lost,
-    }
+    After::Open(Opened {
+        begun: begun + 1,
+        kept,
+        made,
+    })
 }
 
 // A package of this name, of which no block was made.
@@ -71,25 +112,24 @@ fn sending_of(
 }
 
 // What is left after the head of a package.
-fn started_after(alloc: Global, begun: u32, sending: Sending, left: &[u8], made: Vec<u8>) -> After
+fn started_after(begun: u32, sending: Sending, kept: Vec<u8>, made: Vec<u8>) -> After
     requires few { begun < 1000 }
     requires last { sending.closes ≡ false → begun < 999 }
-    ensures { IsStarted begun sending left.now made.items result }
+    ensures { IsStarted begun sending kept.items made.items result }
 {
     let begun = if sending.closes { begun } else { begun + 1 };
-    match Vec::from_slice(alloc, left) {
-        Ok(kept) => After::Sends(Started {
-            sending,
-            begun,
-            kept,
-            made,
-        }),
-        Err(_) => After::Lost,
-    }
+    After::Sends(Started {
+        sending,
+        begun,
+        kept,
+        made,
+    })
 }
 
 // rule: Session over a port
+// rule: Reply without memory
 // Replies to the message at the front of what is kept, after so many replies; of a package with bytes it makes the head.
+// Without memory for another reply the desk isn't called.
 pub(crate) fn reply<D: Desk, Z: Packages + Clock>(
     alloc: Global,
     room: &mut Buffers,
@@ -106,23 +146,30 @@ pub(crate) fn reply<D: Desk, Z: Packages + Clock>(
     ensures path { D.path desk.new ≡ D.path desk.old }
     ensures content_type { D.content_type desk.new ≡ D.content_type desk.old }
 {
-    let left = &kept[found.length..];
+    let Some(ready) = make_ready(alloc, room, &kept[found.length..]) else {
+        return After::Lost;
+    };
     let closes = closes_after(found.request.closes, begun);
     let request = Request {
         closes,
         ..found.request
     };
+    let Ready {
+        failure,
+        kept,
+        made,
+    } = ready;
     let mut sink = Made {
-        bytes: Vec::new(alloc),
+        bytes: made,
         failures: Trace::new(),
     };
     match begin(&mut sink, room.block(), desk, site, &request) {
-        Ok(Begun::Done(handled)) => done_after(alloc, begun, handled, closes, left, sink.bytes),
+        Ok(Begun::Done(handled)) => done_after(begun, handled, closes, kept, sink.bytes),
         Ok(Begun::Sends(name, declared)) => match sending_of(alloc, name, &declared, closes) {
-            Ok(sending) => started_after(alloc, begun, sending, left, sink.bytes),
-            Err(_) => After::Lost,
+            Ok(sending) => started_after(begun, sending, kept, sink.bytes),
+            Err(_) => After::Failed(failure),
         },
-        Err(_) => After::Lost,
+        Err(_) => After::Failed(failure),
     }
 }
 
@@ -131,12 +178,8 @@ pub(crate) fn reply<D: Desk, Z: Packages + Clock>(
 pub(crate) fn reject(alloc: Global, room: &mut Buffers, status: Status) -> After
     ensures { IsRejection status result }
 {
-    let mut sink = Made {
-        bytes: Vec::new(alloc),
-        failures: Trace::new(),
-    };
-    match send_empty(&mut sink, room.block(), status, None, true) {
-        Ok(()) => After::Over(sink.bytes),
-        Err(_) => After::Lost,
+    match last_reply(alloc, room, status) {
+        Some(made) => After::Over(made),
+        None => After::Lost,
     }
 }

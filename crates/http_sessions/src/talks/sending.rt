@@ -2,7 +2,7 @@
 
 ghost use Rattle.std.specs.Prelude.{◌≡◌, ◌≤◌, [], false, true, length, if◌then◌else◌};
 ghost use Rattle.http_sessions.specs.Sends.{Sends};
-ghost use Rattle.http_sessions.specs.Talks.{pending};
+ghost use Rattle.http_sessions.specs.Talks.{IsSending, pending};
 ghost use Rattle.http_sessions.specs.declared.talks.talk.Stage.TheVariants as stage;
 
 use crate::talks::talk::{Sending, Stage, Talk};
@@ -41,7 +41,8 @@ fn stage_after(closes: bool) -> Stage
 // Makes the next block of the package that is sent, once the one before is sent; after the last one the session goes on
 // or ends. A package that is not whole ends it.
 pub(crate) fn send_on<Z: Packages>(alloc: Global, site: &Z, talk: &mut Talk)
-    requires { pending talk.old ≡ [] }
+    requires none { pending talk.old ≡ [] }
+    requires sends { IsSending talk.old.stage }
     ensures sends { Sends (Z.sizes site.now) (Z.reads site.now) talk.old talk.new }
     ensures block { length (pending talk.new) ≤ 65536 }
 {

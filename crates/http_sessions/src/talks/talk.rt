@@ -23,7 +23,9 @@ pub(crate) enum Stage {
     Sends(Sending),
     // The session has ended.
     Over,
-    // Memory ran out.
+    // Memory ran out for the last reply, and another one takes its place.
+    Failed,
+    // Memory ran out before the desk was called, or within a package.
     Lost,
 }
 

@@ -4,9 +4,8 @@ ghost use Rattle.http_desks.specs.Uses.{IsUse};
 ghost use Rattle.http_ports.specs.Speech.{IsNext, Waiting};
 ghost use Rattle.http_ports.specs.Traffic.{IsTime};
 ghost use Rattle.http_ports.specs.declared.timestamp.Timestamp.{Timestamp};
-ghost use Rattle.http_sessions.specs.Leaves.{GoesOn, IsApplied, MakesAtOnce};
+ghost use Rattle.http_sessions.specs.Leaves.{GivesUp, GoesOn, IsApplied, MakesAtOnce};
 ghost use Rattle.http_sessions.specs.Talks.{IsSending, Said, is_lost, pending, phase_of};
-ghost use Rattle.http_sessions.specs.declared.talks.talk.Stage.TheVariants as stage;
 
 use crate::buffers::Buffers;
 use crate::foreseeing::Foreseen;
@@ -32,7 +31,7 @@ pub struct Talks<'a, Z> {
 // How a connection goes on; one that is busy and has made nothing is lost.
 fn next_of(talk: &mut Talk) -> Next
     ensures next { IsNext result (pending talk.new) (phase_of talk.new.stage) }
-    ensures left { (talk.new ≡ talk.old) ⊎ ((talk.new.stage ≡ stage.Lost) × (pending talk.new ≡ [])) }
+    ensures left { (talk.new ≡ talk.old) ⊎ GivesUp talk.old talk.new }
 {
     if !talk.made[talk.sent..].is_empty() {
         return Next::Made;
@@ -40,11 +39,27 @@ fn next_of(talk: &mut Talk) -> Next
     match talk.stage {
         Stage::Part => Next::Waits,
         Stage::Over => Next::Over,
+        Stage::Failed => Next::Over,
         Stage::Lost => Next::Over,
         Stage::Busy | Stage::Sends(_) => {
             talk.stage = Stage::Lost;
             Next::Over
         }
+    }
+}
+
+// A connection whose session has ended, and whose last reply was made.
+fn ended(alloc: Global, stage: Stage, made: Vec<u8>) -> Talk
+    ensures stage { result.stage ≡ stage }
+    ensures pending { pending result ≡ made.items }
+{
+    Talk {
+        stage,
+        begun: 0,
+        kept: Vec::new(alloc),
+        need: 0,
+        made,
+        sent: 0,
     }
 }
 
@@ -54,16 +69,8 @@ fn apply(alloc: Global, talk: &mut Talk, after: After)
 {
     match after {
         After::Lost => talk.stage = Stage::Lost,
-        After::Over(made) => {
-            *talk = Talk {
-                stage: Stage::Over,
-                begun: 0,
-                kept: Vec::new(alloc),
-                need: 0,
-                made,
-                sent: 0,
-            };
-        }
+        After::Over(made) => *talk = ended(alloc, Stage::Over, made),
+        After::Failed(made) => *talk = ended(alloc, Stage::Failed, made),
         After::Open(opened) => {
             *talk = Talk {
                 stage: Stage::Busy,
@@ -125,12 +132,12 @@ impl<Z: Packages> Protocol for Talks<'_, Z> {
     fn waiting<'c>(&self, talk: &'c Talk) -> Option<&'c [u8]> {
         match talk.stage {
             Stage::Busy => Some(&talk.kept),
-            Stage::Part | Stage::Sends(_) | Stage::Over | Stage::Lost => None,
+            Stage::Part | Stage::Sends(_) | Stage::Over | Stage::Failed | Stage::Lost => None,
         }
     }
 
     fn end(&self, talk: Talk) -> bool {
-        matches!(talk.stage, Stage::Lost)
+        matches!(talk.stage, Stage::Failed | Stage::Lost)
     }
 
     fn sent(&self, talk: &mut Talk, count: usize) {
@@ -173,6 +180,7 @@ impl<Z: Packages> Protocol for Talks<'_, Z> {
         match talk.stage {
             Stage::Part => Next::Waits,
             Stage::Over => Next::Over,
+            Stage::Failed => Next::Over,
             Stage::Lost => Next::Over,
             Stage::Sends(_) => {
                 send_on(self.alloc, self.site, talk);

@@ -1,4 +1,4 @@
-use Rattle.std.proofs.Common.{ap, sym, ◌∙◌, arith}
+use Rattle.std.proofs.Common.{sym, ◌∙◌, arith}
 use Rattle.http_desks.specs.Uses.{method_of}
 use Rattle.http_sessions.proofs.LengthLemmas.{framing_of-bound, plan_few, plan_many, plan_closes, plan_method}
 use Rattle.http_sessions.proofs.message.examine.Goals as goal

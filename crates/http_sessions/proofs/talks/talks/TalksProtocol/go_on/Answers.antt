@@ -30,6 +30,15 @@ returns-in-Over-clause-calls g c = (
       (g.D.Desk.content_type c.args.desk.now) timestamps c.args.seconds c.args.talk.now received sent made (ap (λ (at : Stage). waiting_at at c.args.talk.now.kept.items) c.in-Over.is) said,
 )
 
+pub returns-in-Failed-clause-calls : goal.returns-in-Failed-clause-calls
+returns-in-Failed-clause-calls g c = (
+  [],
+  refl,
+  λ received sent timestamps made said.
+      Said-idle (IsUse (g.D.Desk.path c.args.desk.now) IsTime (g.Z.Packages.sizes c.args.self.now.site.now) (g.Z.Packages.reads c.args.self.now.site.now))
+      (g.D.Desk.content_type c.args.desk.now) timestamps c.args.seconds c.args.talk.now received sent made (ap (λ (at : Stage). waiting_at at c.args.talk.now.kept.items) c.in-Failed.is) said,
+)
+
 pub returns-in-Lost-clause-calls : goal.returns-in-Lost-clause-calls
 returns-in-Lost-clause-calls g c = (
   [],
@@ -71,8 +80,8 @@ returns-in-Rejected-clause-calls g c =
           elim c.next_of-in-Rejected.ensures.left [
             | inl same ↦ subst (λ (talk : Talk). Said IsFit kind (later timestamps c.args.seconds (waiting_of c.args.talk.now) received sent) talk received sent (made ++ calls)) (sym same)
                 (goes_on received sent timestamps made said)
-            | inr (is, none) ↦ Said-lost IsFit kind (later timestamps c.args.seconds (waiting_of c.args.talk.now) received sent) c.apply-in-Rejected.new.talk c.next_of-in-Rejected.new.talk
-                received sent (made ++ calls) is none (goes_on received sent timestamps made said)
+            | inr up ↦ Said-lost IsFit kind (later timestamps c.args.seconds (waiting_of c.args.talk.now) received sent) c.apply-in-Rejected.new.talk c.next_of-in-Rejected.new.talk
+                received sent (made ++ calls) up.busy up.none up.lost up.silent (goes_on received sent timestamps made said)
           ],
     )
 
@@ -92,8 +101,8 @@ returns-in-Whole-clause-calls g c =
           elim c.next_of-in-Whole.ensures.left [
             | inl same ↦ subst (λ (talk : Talk). Said IsFit kind (later timestamps c.args.seconds (waiting_of c.args.talk.now) received sent) talk received sent (made ++ calls)) (sym same)
                 (goes_on received sent timestamps made said)
-            | inr (is, none) ↦ Said-lost IsFit kind (later timestamps c.args.seconds (waiting_of c.args.talk.now) received sent) c.apply.new.talk c.next_of-in-Whole.new.talk
-                received sent (made ++ calls) is none (goes_on received sent timestamps made said)
+            | inr up ↦ Said-lost IsFit kind (later timestamps c.args.seconds (waiting_of c.args.talk.now) received sent) c.apply.new.talk c.next_of-in-Whole.new.talk
+                received sent (made ++ calls) up.busy up.none up.lost up.silent (goes_on received sent timestamps made said)
           ],
     )
 
@@ -109,7 +118,7 @@ returns-in-Sends-clause-calls g c = (
       (ap (λ (at : Stage). waiting_at at c.args.talk.now.kept.items) c.in-Sends.is) said) in
       elim c.next_of.ensures.left [
         | inl same ↦ subst (λ (talk : Talk). Said IsFit kind (later timestamps c.args.seconds (waiting_of c.args.talk.now) received sent) talk received sent (made ++ [])) (sym same) sends
-        | inr (is, none) ↦ Said-lost IsFit kind (later timestamps c.args.seconds (waiting_of c.args.talk.now) received sent) c.send_on.new.talk c.next_of.new.talk received sent (made ++ []) is none sends
+        | inr up ↦ Said-lost IsFit kind (later timestamps c.args.seconds (waiting_of c.args.talk.now) received sent) c.send_on.new.talk c.next_of.new.talk received sent (made ++ []) up.busy up.none up.lost up.silent sends
       ],
 )
 

@@ -1,4 +1,4 @@
-use Rattle.std.proofs.Common.{List, ℕ, [], refl, ap, drop}
+use Rattle.std.proofs.Common.{List, ℕ, refl, ap, drop}
 use Rattle.http_desks.specs.Uses.{IsUse}
 use Rattle.http_ports.specs.Traffic.{IsTime}
 use Rattle.http_sessions.proofs.TalkLemmas.{Said-nothing}
