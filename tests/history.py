@@ -1,7 +1,7 @@
 #!/usr/bin/env python3
 """Tests the history of `omaha serve`: what was published is there after the server was killed.
 
-    tests/history.py [PROGRAM] [--kills N] [--only NAME]
+    tests/history.py [PROGRAM] [--kills N] [--mishaps N] [--only NAME]
 
 `make history` runs it, after `make install`. PROGRAM is the built program, else that of the last build. Each test
 prints its name and, if it fails, what was expected and what was found; then the exit status is 1.
@@ -14,6 +14,9 @@ prints its name and, if it fails, what was expected and what was found; then the
 - `full`: at the limit of the records a publish gets 500 and changes nothing; with a larger limit it goes on.
 - `disk`: on a full disk a publish gets 500 and changes nothing, and with room the next start goes on. Only root can mount
   such a disk.
+- `mishaps`: N times, 300 by default, something happens to the files of a server that was killed: one of them is missing,
+  empty, cut, older, of another history, or has a wrong bit. Then a start has all that was replied to, or a line that says
+  why it doesn't begin. Only a pair that is older as a whole is an older history.
 - `sqlite3`: Debian's `sqlite3`, if it is installed, reads the file and finds it whole.
 """
 
@@ -307,6 +310,57 @@ def full(program):
     print("full")
 
 
+def pairs(program, count):
+    """The files of a server, and the records of its history, after each of its calls; it is killed at the end."""
+    with folder_of() as folder:
+        server, found = Server(program, folder), []
+        for number in range(1, count):
+            budget = 2000000000000 + number
+            body = share_script(number // 2 + 1, number) if number % 2 else f"raise m0 {budget}"
+            check("mishaps: a call", 200, server.operate(body)[0])
+            files = tuple((folder / name).read_bytes() for name in ("history.db", "history.db-wal"))
+            found.append((files, number + 1))
+        server.kill()
+        return found
+
+
+def mishap(chance, files, older, other):
+    """What happens to the two files, and its name."""
+    at, names = chance.randrange(2), ("the file", "the log")
+    kind = chance.choice(["missing", "empty", "cut", "older", "another's", "a wrong bit"])
+    data = files[at]
+    if kind == "cut":
+        data = data[: chance.randrange(len(data))]
+    elif kind == "a wrong bit":
+        place = chance.randrange(len(data))
+        data = data[:place] + bytes([data[place] ^ 1 << chance.randrange(8)]) + data[place + 1 :]
+    else:
+        data = {"missing": None, "empty": b"", "older": older[at], "another's": other[at]}[kind]
+    return f"{names[at]}: {kind}", tuple(data if index == at else file for index, file in enumerate(files))
+
+
+def mishaps(program, count):
+    chance, began, refused = random.Random(1), time.monotonic(), 0
+    kept, other = pairs(program, 12), pairs(program, 5)[-1][0]
+    for _ in range(count):
+        place = chance.randrange(3, len(kept))
+        files, records = kept[place]
+        name, left = mishap(chance, files, kept[chance.randrange(place)][0], other)
+        with folder_of() as folder:
+            for path, data in zip(("history.db", "history.db-wal"), left):
+                if data is not None:
+                    (folder / path).write_bytes(data)
+            more = ("--profile", "profile.toml", "--sessions", "0")
+            status, printed, error = ends(program, folder, *more)
+            if status == 1 and printed == "" and error.startswith("omaha: history history.db: "):
+                refused += 1
+                continue
+            check(f"mishaps: {name}: a start", (0, ""), (status, error))
+            listed = run(program, folder, "history", "history.db")[1].splitlines()
+            check(f"mishaps: {name}: records", records, len(listed))
+    print(f"mishaps: {count}, {refused} refused with a line, {time.monotonic() - began:.0f} s")
+
+
 def sqlite3(program):
     found = shutil.which("sqlite3")
     if not found:
@@ -316,7 +370,8 @@ def sqlite3(program):
         server = Server(program, folder)
         server.operate(share_script(1, 7))
         server.kill()
-        check("sqlite3", (0, "1|1\n2|2\n", ""), run(found, folder, "history.db", "select number, kind from record"))
+        rows = "-2|0\n-1|0\n1|1\n2|2\n"
+        check("sqlite3", (0, rows, ""), run(found, folder, "history.db", "select number, kind from record order by number"))
         check("sqlite3: whole", (0, "ok\n", ""), run(found, folder, "history.db", "pragma integrity_check"))
         server = Server(program, folder)
         check("sqlite3: the server goes on", 2, server.edition())
@@ -328,9 +383,11 @@ def main():
     parser = argparse.ArgumentParser(description=__doc__, formatter_class=argparse.RawDescriptionHelpFormatter)
     parser.add_argument("program", nargs="?", default=str(TOP / "crates" / "omaha" / "out" / "omaha"))
     parser.add_argument("--kills", type=int, default=500)
+    parser.add_argument("--mishaps", type=int, default=300)
     parser.add_argument("--only")
     options = parser.parse_args()
     tests = {"commands": commands, "faults": faults, "full": full, "disk": disk, "sqlite3": sqlite3}
+    tests["mishaps"] = lambda program: mishaps(program, options.mishaps)
     tests["kills"] = lambda program: kills(program, options.kills)
     for name, test in tests.items():
         if options.only in (None, name):
