@@ -27,9 +27,9 @@ use std::io::ErrorKind;
 use std::marker::Model;
 use std::rt::HostRuntime;
 
-// How many pages a log may have before it is copied into the database file, at the next commit: that of a checksum may be
-// alone, and a record before it is copied.
-const MAX_LOG_PAGES: usize = 2;
+// How many pages a log has if it is copied into the database file before the next transaction: that of a checksum comes after
+// each record, so the record is copied.
+const LOG_PAGES: usize = 1;
 
 // Opens the database in the files at a path.
 fn open_files<S: Start>(
@@ -53,7 +53,7 @@ fn open_files<S: Start>(
         return Err(OpenFault::Unopened);
     };
     let mut options = Options::new(seed.hash_one(&0u8));
-    options.checkpoint_frames = MAX_LOG_PAGES;
+    options.checkpoint_frames = LOG_PAGES;
     match Connection::open_files(rt.alloc(), files, options) {
         Ok(conn) => Ok(conn),
         Err((error, _left)) => Err(open_fault_of(error)),
