@@ -1,6 +1,6 @@
-//! Worked rows of catalogues: the order of versions, the files of packages, and tables of prices, made by several threads,
-//! and kept by editions and reviews; calls without memory; and what a server's threads share: what is published to views,
-//! also by two threads, and budgets that two workers ask for while they are raised.
+//! Worked rows of catalogues: the order of versions, the files of packages, the graphs of tracks, and tables of prices, made
+//! by several threads, and kept by editions and reviews; plans; calls without memory; and what a server's threads share:
+//! what is published to views, also by two threads, and budgets that two workers ask for while they are raised.
 //!
 //! It has tests alone, so that the libraries below are proved once. What profiles and scripts are read as, what they are
 //! rejected for, how a catalogue is written, certificates, what a server replies, and what its operator's
@@ -8,6 +8,8 @@
 
 #![tactic(auto)]
 
+#[cfg(test)]
+mod certified;
 #[cfg(test)]
 mod descriptions;
 #[cfg(test)]
@@ -17,9 +19,13 @@ mod file_tests;
 #[cfg(test)]
 mod findings;
 #[cfg(test)]
+mod graphs;
+#[cfg(test)]
 mod kept;
 #[cfg(test)]
 mod out_of_memory_tests;
+#[cfg(test)]
+mod planned;
 #[cfg(test)]
 mod raising;
 #[cfg(test)]

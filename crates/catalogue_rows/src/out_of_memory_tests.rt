@@ -14,8 +14,8 @@ use std::alloc::Global;
 use std::thread::Threads;
 use values::Items;
 
-// Whether one of two tries came to what it should, and none to anything else; `None` is a try that ran out of memory.
-fn are_right(first: Option<bool>, second: Option<bool>) -> bool {
+/// Whether one of two tries came to what it should, and none to anything else; `None` is a try that ran out of memory.
+pub(crate) fn are_right(first: Option<bool>, second: Option<bool>) -> bool {
     first != Some(false) && second != Some(false) && (first.is_some() || second.is_some())
 }
 

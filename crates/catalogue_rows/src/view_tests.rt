@@ -1,8 +1,9 @@
 // Two threads that enter editions while a third publishes.
 
+use crate::out_of_memory_tests::are_right;
 use editions::Edition;
 use fixtures::{CHAINED, open_profile, publish_empty};
-use publisher::{Press, Receipt, View, may_enter, meet};
+use publisher::{Press, PublishError, Receipt, View, may_enter, meet};
 use std::alloc::Global;
 use std::sync::Wait;
 use std::thread::{Threads, join};
@@ -139,4 +140,58 @@ fn rises<R: Threads + Wait + Sync>(rt: &R, alloc: Global) -> bool {
 #[test]
 fn numbers_never_fall_while_another_thread_publishes(rt: HostRuntime) {
     assert!(rt; rises(&rt, rt.alloc()));
+}
+
+// Whether a batch on the first edition is stale, since the second one is published; `None` if memory ran out.
+fn is_stale<R: Threads + Wait>(rt: &R, alloc: Global, press: &mut Press) -> Option<bool> {
+    match publish_empty(rt, alloc, press, 1) {
+        Err(PublishError::Stale(now)) => Some(now.edition() == 2),
+        Err(PublishError::Memory) => None,
+        _ => Some(false),
+    }
+}
+
+// Whether a view that learns the receipt of the second edition meets the press at 2.
+fn learns(press: &Press, view: View, receipt: &Receipt) -> bool {
+    let mut view = view;
+    view.learn(receipt);
+    let (view, number) = enter(view);
+    let (_view, numbers) = meet(press, view);
+    receipt.edition() == 2 && number == 2 && numbers == Some((2, 2))
+}
+
+// Whether the second edition is published once, and learnt; `None` if memory ran out, and the first one is published then.
+fn publishes<R: Threads + Wait>(
+    rt: &R,
+    alloc: Global,
+    press: &mut Press,
+    view: View,
+) -> Option<bool> {
+    match publish_empty(rt, alloc, press, 1) {
+        Ok(receipt) => Some(is_stale(rt, alloc, press)? && learns(press, view, &receipt)),
+        Err(PublishError::Memory) if press.edition().number() == 1 => None,
+        Err(_) => Some(false),
+    }
+}
+
+fn publishes_second<R: Threads + Wait>(rt: &R, alloc: Global) -> Option<bool> {
+    let (press, views) = open_profile(rt, alloc, CHAINED, 1).ok()?;
+    let mut press = press;
+    let mut views = views;
+    let is_published = match views.pop() {
+        Some(view) => publishes(rt, alloc, &mut press, view),
+        None => Some(false),
+    };
+    press.end(rt);
+    is_published
+}
+
+// rule: Learnt history
+// rule: Meeting of a press and a view
+// rule: Publishing
+// rule: Stale base
+#[test]
+fn publish_without_memory(rt: HostRuntime) {
+    let first = publishes_second(&rt, rt.alloc());
+    assert!(rt; are_right(first, publishes_second(&rt, rt.alloc())));
 }
