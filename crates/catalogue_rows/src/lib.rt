@@ -11,6 +11,8 @@
 #[cfg(test)]
 mod certified;
 #[cfg(test)]
+mod closing;
+#[cfg(test)]
 mod descriptions;
 #[cfg(test)]
 mod errors;
