@@ -47,15 +47,29 @@ fn call_all<R: Records>(records: &mut R, alloc: Global) -> Option<Outcome> {
     })
 }
 
-// Makes the calls, and notes what they came to.
+// Makes the calls, and notes what they came to, and whether the history is live afterwards.
 #[derive(Drop)]
 struct Calls {
     outcome: Option<Outcome>,
+    is_live: bool,
 }
 
 impl Life for Calls {
     fn live<R: Records>(&mut self, alloc: Global, records: &mut R, _found: &[Record]) {
         self.outcome = call_all(records, alloc);
+    }
+
+    fn end(&mut self, is_live: bool) {
+        self.is_live = is_live;
+    }
+}
+
+// Whether a history is live after calls that all succeeded, and isn't after one in doubt.
+fn is_live_after(is_live: bool, outcome: Outcome) -> bool {
+    if outcome.in_doubt {
+        !is_live
+    } else {
+        is_live || outcome.done < 4
     }
 }
 
@@ -86,9 +100,15 @@ impl Life for Look {
 // Runs a log that stops after so many calls, and returns how many calls of the history succeeded; `None` if the crash
 // lost what they stored, or if the history could not be opened.
 fn run(alloc: Global, log_calls: u64) -> Option<usize> {
-    let mut calls = Calls { outcome: None };
+    let mut calls = Calls {
+        outcome: None,
+        is_live: false,
+    };
     let disk = Disk::empty(alloc, log_calls, u64::MAX).crash_after(alloc, &mut calls)?;
     let outcome = calls.outcome?;
+    if !is_live_after(calls.is_live, outcome) {
+        return None;
+    }
     let mut look = Look {
         outcome,
         is_after: false,

@@ -39,6 +39,9 @@ impl Disk {
 pub(crate) trait Life {
     /// Makes its calls on the records, of which the open found these.
     fn live<R: Records>(&mut self, alloc: Global, records: &mut R, found: &[Record]);
+
+    /// Notes whether the history's calls still reach the disk.
+    fn end(&mut self, _is_live: bool) {}
 }
 
 // Opens the database in two files.
@@ -76,6 +79,7 @@ fn live_over<S: Alter + Drop, L: Life>(
         Ok((history, found)) => {
             let mut history = history;
             life.live(alloc, &mut history, &found);
+            life.end(history.is_live());
             if crashes {
                 Some(Left::Store(history.into_connection().into_store()))
             } else {
