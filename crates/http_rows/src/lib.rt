@@ -17,6 +17,8 @@ mod failing_session_tests;
 #[cfg(test)]
 mod lines;
 #[cfg(test)]
+mod out_of_memory_tests;
+#[cfg(test)]
 mod peers;
 #[cfg(test)]
 mod port_tests;
@@ -28,6 +30,8 @@ mod queue_tests;
 mod scripted;
 #[cfg(test)]
 mod session_tests;
+#[cfg(test)]
+mod watched_tests;
 #[cfg(test)]
 mod whole_tests;
 #[cfg(test)]
