@@ -1,9 +1,9 @@
 # make demo          prints requests of examples/ and their replies, serves, publishes and walks, by the
 #                    program built without a proof, or by the one of make install
 # make test          the gate: the rules' marks, the words to avoid, the functions and clauses that the claims name, the
-#                    list of crates, the pictures, every proof from nothing, mutants, tests and the program, and then
-#                    the rows of tests/rows, the cases of tests/corpus, replies on random catalogues and a few idle
-#                    connections with the built program
+#                    public functions that nobody calls, the list of crates, the pictures, every proof from nothing,
+#                    mutants, tests and the program, and then the rows of tests/rows, the cases of tests/corpus, replies
+#                    on random catalogues and a few idle connections with the built program
 # make mutants CRATE..  tries the mutants that the gate doesn't, of these crates or of all; the prover
 #                    must reject each
 # make commands      runs the commands on the profiles of examples/, and verifies each track's
@@ -44,6 +44,7 @@ test:
 	tests/rules.py
 	tests/words.py
 	tests/claims.py
+	tests/callers.py
 	tests/crates.py
 	tests/edits.py
 	docs/pictures/draw.py --check
@@ -88,8 +89,8 @@ deb:
 	tests/deb.py
 
 allocations:
-	for crate in catalogue_rows client_rows; do \
-		(cd crates/$$crate && rt test -- without_memory) || exit 1; done
+	for crate in catalogue_rows client_rows http_rows; do \
+		(cd crates/$$crate && rt test -- memory) || exit 1; done
 	tests/allocations.py
 
 fuzz:

@@ -12,6 +12,7 @@ what it prints with memory. A run of `serve` has two workers and an operator. It
 pages, a script is published and a budget raised; what it rejects since memory ran out it does when it is asked again. Its
 mirror's total is the sum of what it offered, and of what it granted to the update check that ran out of memory, if it did.
 It closes no connection without a byte once it did what a message asked for. A run of a test must pass.
+Of a test whose name ends in `_once_memory_ran_out` all calls fail from the Nth on.
 
 The public calls that may run out of memory are shown so:
 
@@ -24,8 +25,8 @@ The public calls that may run out of memory are shown so:
 - by `check`, `certify` and `verify`: `read_prices`, `write_prices`, `check_parallel` and `Graph::of_track`;
 - by `walk`: `Client::walk` with `write_request` and `read_reply`, and by it, `publish`, `raise`, `dump` and `status` `post_to`;
 - by `history`: `EditionBuilder` with `build`; by `review`, `graph`, `describe`, `script` and `explain` what each prints;
-- by the tests: `Catalogue::apply`, `Catalogue::copy`, `Batch::copy`, `tables`, `build`, `build_for`, and `Client::walk` over
-  devices in memory.
+- by the tests: `Catalogue::apply`, `Catalogue::copy`, `Batch::copy`, `tables`, `build`, `build_for`, `plan`, `open_books`, `close`,
+  `open`, `Press::publish`, `serve` of `http_sessions`, and `Client::walk` over devices in memory.
 
 It needs a C compiler, the program, and the tests whose names end in `_without_memory`, which `make allocations` builds.
 """
@@ -46,8 +47,9 @@ from fuzzing.server import Connection, Wrong
 TOP = pathlib.Path(__file__).resolve().parent.parent
 EXAMPLES = TOP / "examples"
 # the crates that have tests without memory
-CRATES = ["catalogue_rows", "client_rows"]
-ENDING = "_without_memory"
+CRATES = ["catalogue_rows", "client_rows", "http_rows"]
+# of a test with the second ending, the calls go on failing
+ENDINGS = ("_without_memory", "_once_memory_ran_out")
 LIMIT = 20
 SHOWN = 5
 
@@ -66,7 +68,8 @@ static int fails(void) {
         const char *text = getenv("FAILING_CALL");
         failing = text ? atol(text) : 0;
     }
-    if (atomic_fetch_add(&calls, 1) + 1 != failing) return 0;
+    long call = atomic_fetch_add(&calls, 1) + 1;
+    if (call < failing || (call > failing && !getenv("FAILING_ON")) || failing == 0) return 0;
     if (write(atoi(getenv("TELL_AT")), "x", 1) != 1) _exit(99);
     return 1;
 }
@@ -94,11 +97,12 @@ def built(folder):
 
 
 class Shim:
-    """The library with a call that fails, and whether that call came."""
+    """The library with a call that fails, and perhaps all after it, and whether that call came."""
 
-    def __init__(self, library, call):
+    def __init__(self, library, call, goes_on=False):
         self.reads, self.writes = os.pipe()
         own = {"LD_PRELOAD": library, "FAILING_CALL": str(call), "TELL_AT": str(self.writes)}
+        own |= {"FAILING_ON": "1"} if goes_on else {}
         self.start = {"env": {**os.environ, **own}, "pass_fds": [self.writes]}
 
     def came(self):
@@ -154,7 +158,8 @@ class Test:
 
     def __init__(self, full, tests):
         self.full, self.tests = full, tests
-        self.name = full.rsplit("::", 1)[-1].removesuffix(ENDING)
+        self.name = full.rsplit("::", 1)[-1].removesuffix("_without_memory")
+        self.goes_on = full.endswith(ENDINGS[1])
 
     def once(self, _program, shim):
         found = run([self.tests, self.full], shim)
@@ -407,7 +412,7 @@ def tests_of(crate):
         sys.exit(f"{path} isn't built: make allocations builds it")
     listed = subprocess.run([path, "--list"], capture_output=True, text=True, check=True).stdout
     names = [line.removesuffix(": test") for line in listed.splitlines()]
-    return [Test(name, path) for name in names if name.endswith(ENDING)]
+    return [Test(name, path) for name in names if name.endswith(ENDINGS)]
 
 
 def sweep(library, program, swept):
@@ -420,7 +425,7 @@ def sweep(library, program, swept):
     call, wrong = 0, 0
     while True:
         call += 1
-        shim = Shim(library, call)
+        shim = Shim(library, call, getattr(swept, "goes_on", False))
         found = swept.once(program, shim)
         if not shim.came():
             break

@@ -106,8 +106,6 @@ def reply_of(profile, request):
 # rule: Least sum
 # rule: Offered release
 # rule: Payloads from a release
-# rule: Payloads into a release
-# rule: Permitted on a track
 # rule: Place of a client
 # rule: Quote
 # rule: Rollback of a key
