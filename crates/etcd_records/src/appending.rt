@@ -149,8 +149,14 @@ impl<G: Gateway> Records for EtcdRecords<G> {
 
     ghost was_read = { λ records. records.read ≡ true };
 
+    ghost lasts = { λ _. true };
+
     fn first(&self) -> u64 {
         1
+    }
+
+    fn lasts(&self) -> bool {
+        true
     }
 
     // rule: Append to etcd

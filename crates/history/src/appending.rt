@@ -79,8 +79,14 @@ impl<S: Alter> Records for History<S> {
 
     ghost was_read = { λ _. ⊥ };
 
+    ghost lasts = { λ _. true };
+
     fn first(&self) -> u64 {
         self.first
+    }
+
+    fn lasts(&self) -> bool {
+        true
     }
 
     // rule: Failed append

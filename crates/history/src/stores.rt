@@ -1,6 +1,6 @@
 // The history in a file.
 
-ghost use Rattle.std.specs.Prelude.{◌≡◌, ◌↔◌, ◌<◌, ◌≤◌, ◌^◌, Err, IfErr, IfOk, IsTrue, length};
+ghost use Rattle.std.specs.Prelude.{◌≡◌, ◌↔◌, ◌<◌, ◌≤◌, ◌^◌, Err, IfErr, IfOk, IsTrue, length, true};
 ghost use Rattle.kept_records.specs.declared.fault.AppendFault.TheVariants.{Full};
 ghost use Rattle.kept_records.specs.declared.record.Kind.TheVariants.{Profile};
 ghost use Rattle.kept_records.specs.Keeping.{Appends, Compacts, HasRoom, Numbers, record_of};
@@ -136,8 +136,14 @@ impl Records for FileHistory {
 
     ghost was_read = { λ _. ⊥ };
 
+    ghost lasts = { λ _. true };
+
     fn first(&self) -> u64 {
         self.history.first
+    }
+
+    fn lasts(&self) -> bool {
+        true
     }
 
     fn append(&mut self, alloc: Global, kind: Kind, bytes: &[u8]) -> Result<(), AppendFault>

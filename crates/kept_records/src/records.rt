@@ -1,6 +1,6 @@
 // Where records are kept.
 
-ghost use Rattle.std.specs.Prelude.{◌≡◌, ◌≤◌, ◌^◌, ℕ, List, IfOk, IfSome, IsTrue};
+ghost use Rattle.std.specs.Prelude.{◌≡◌, ◌≤◌, ◌^◌, ℕ, Bool, true, false, List, IfOk, IfSome, IsOk, IsTrue};
 ghost use Rattle.kept_records.specs.declared.record.Record.{Record};
 ghost use Rattle.kept_records.specs.declared.record.Kind.TheVariants.{Profile};
 ghost use Rattle.kept_records.specs.Keeping.{Appends, Compacts, Forgets, Learns, Numbers, record_of};
@@ -22,6 +22,9 @@ pub trait Records {
     // the last known record was given by `next`
     ghost was_read: { Self → Type 0 };
 
+    // whether a restart finds them
+    ghost lasts: { Self → Bool };
+
     /// Returns the number of the first record, from 1 to 2^53: 1, unless earlier ones were removed.
     ///
     /// The first record is a profile, and this is the number of its edition too.
@@ -29,19 +32,29 @@ pub trait Records {
         ensures is { result ≡ first self.now }
         ensures bound { (1 ≤ result) × (result ≤ 2 ^ 53) };
 
+    /// Returns whether a restart finds the records.
+    fn lasts(&self) -> bool
+        ensures { result ≡ lasts self.now };
+
     /// Appends a record after the last one that is known.
     ///
     /// Fails with `Taken` if there is a record after that already, with `Full` if all records would be too large together,
-    /// and with `Failed` or `Unknown` if the store fails: then the record isn't stored, or it may be.
+    /// and with `Failed` or `Unknown` if the store fails: then the record isn't stored, or it may be. It doesn't fail if no
+    /// restart finds the records.
     fn append(&mut self, alloc: Global, kind: Kind, bytes: &[u8]) -> Result<(), AppendFault>
         ensures appends { Appends (record_of kind bytes.now) result (kept self.old) (kept self.new) }
-        ensures first { first self.new ≡ first self.old };
+        ensures succeeds { lasts self.old ≡ false → IsOk result }
+        ensures first { first self.new ≡ first self.old }
+        ensures lasts { lasts self.new ≡ lasts self.old };
 
-    /// Reads the record after the last one that is known, or returns `None` if there is none.
+    /// Reads the record after the last one that is known, or returns `None` if there is none, as always if no
+    /// restart finds the records.
     fn next(&mut self, alloc: Global) -> Result<Option<Record>, ReadFault>
         ensures learns { Learns result (kept self.old) (kept self.new) }
         ensures read { IfOk result (λ found. IfSome found (λ _. was_read self.new)) }
-        ensures first { first self.new ≡ first self.old };
+        ensures lasting { IfOk result (λ found. IfSome found (λ _. lasts self.old ≡ true)) }
+        ensures first { first self.new ≡ first self.old }
+        ensures lasts { lasts self.new ≡ lasts self.old };
 
     /// Forgets the last known record, so that the next read may give it again; returns whether it did.
     ///
@@ -49,7 +62,8 @@ pub trait Records {
     fn unread(&mut self) -> bool
         ensures forgets { Forgets result (kept self.old) (kept self.new) }
         ensures read { was_read self.old → IsTrue result }
-        ensures first { first self.new ≡ first self.old };
+        ensures first { first self.new ≡ first self.old }
+        ensures lasts { lasts self.new ≡ lasts self.old };
 
     /// Replaces all records by one, a profile, which gets this number, from 1 to 2^53.
     ///
@@ -58,7 +72,8 @@ pub trait Records {
     fn compact(&mut self, alloc: Global, number: u64, bytes: &[u8]) -> Result<(), AppendFault>
         requires { (1 ≤ number) × (number ≤ 2 ^ 53) }
         ensures compacts { Compacts (record_of Profile bytes.now) result (kept self.old) (kept self.new) }
-        ensures first { Numbers number result (first self.old) (first self.new) };
+        ensures first { Numbers number result (first self.old) (first self.new) }
+        ensures lasts { lasts self.new ≡ lasts self.old };
 }
 
 /// Opens records that are kept at a path.

@@ -107,7 +107,7 @@ impl MemoryRecords {
 }
 
 impl Records for MemoryRecords {
-    ghost use Rattle.std.specs.Prelude.{◌≡◌, ◌+◌, ◌<◌, ◌≤◌};
+    ghost use Rattle.std.specs.Prelude.{◌≡◌, ◌+◌, ◌<◌, ◌≤◌, true};
     ghost use Rattle.kept_records.specs.Memories.{known_of};
 
     ghost kept = { known_of };
@@ -116,8 +116,14 @@ impl Records for MemoryRecords {
 
     ghost was_read = { λ memory. 0 < memory.known };
 
+    ghost lasts = { λ _. true };
+
     fn first(&self) -> u64 {
         self.first
+    }
+
+    fn lasts(&self) -> bool {
+        true
     }
 
     // rule: Appended record

@@ -63,6 +63,7 @@ impl Unkept {
 }
 
 impl Records for Unkept {
+    ghost use Rattle.std.specs.Prelude.{false};
     ghost use Rattle.kept_records.specs.Unkept.{noted};
 
     ghost kept = { λ unkept. noted unkept.notes };
@@ -71,8 +72,14 @@ impl Records for Unkept {
 
     ghost was_read = { λ _. ⊥ };
 
+    ghost lasts = { λ _. false };
+
     fn first(&self) -> u64 {
         self.first
+    }
+
+    fn lasts(&self) -> bool {
+        false
     }
 
     fn append(&mut self, _alloc: Global, kind: Kind, bytes: &[u8]) -> Result<(), AppendFault> {

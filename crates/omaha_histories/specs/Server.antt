@@ -1,5 +1,5 @@
 -- The records of a server that may have a history; this project's profile.
-use Rattle.std.specs.Prelude.{ℕ, List}
+use Rattle.std.specs.Prelude.{ℕ, Bool, false, List}
 use Rattle.kept_records.specs.Unkept.{noted}
 use Rattle.kept_records.specs.declared.record.Record.{Record}
 use Rattle.omaha_histories.specs.declared.server_records.ServerRecords.{ServerRecords}
@@ -19,3 +19,8 @@ first_in first_of (Unkept records) = records.first
 abbrev pub was_read_in : {K : Type 0} → (K → Type 0) → ServerRecords K → Type 0
 was_read_in was_read (Kept records) = was_read records
 was_read_in was_read (Unkept records) = ⊥
+
+-- whether a restart finds them
+abbrev pub lasts_in : {K : Type 0} → (K → Bool) → ServerRecords K → Bool
+lasts_in lasts_of (Kept records) = lasts_of records
+lasts_in lasts_of (Unkept records) = false

@@ -46,8 +46,14 @@ impl<K: Records> Records for ReportedRecords<'_, K> {
 
     ghost was_read = { λ reported. K.was_read reported.kept };
 
+    ghost lasts = { λ reported. K.lasts reported.kept };
+
     fn first(&self) -> u64 {
         self.kept.first()
+    }
+
+    fn lasts(&self) -> bool {
+        self.kept.lasts()
     }
 
     fn append(&mut self, alloc: Global, kind: Kind, bytes: &[u8]) -> Result<(), AppendFault> {

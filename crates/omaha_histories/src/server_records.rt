@@ -13,7 +13,7 @@ pub enum ServerRecords<K> {
 }
 
 impl<K: Records> Records for ServerRecords<K> {
-    ghost use Rattle.omaha_histories.specs.Server.{first_in, known_in, was_read_in};
+    ghost use Rattle.omaha_histories.specs.Server.{first_in, known_in, lasts_in, was_read_in};
 
     ghost kept = { λ records. known_in K.kept records };
 
@@ -21,10 +21,19 @@ impl<K: Records> Records for ServerRecords<K> {
 
     ghost was_read = { λ records. was_read_in K.was_read records };
 
+    ghost lasts = { λ records. lasts_in K.lasts records };
+
     fn first(&self) -> u64 {
         match self {
             ServerRecords::Kept(records) => records.first(),
             ServerRecords::Unkept(records) => records.first(),
+        }
+    }
+
+    fn lasts(&self) -> bool {
+        match self {
+            ServerRecords::Kept(records) => records.lasts(),
+            ServerRecords::Unkept(records) => records.lasts(),
         }
     }
 

@@ -11,7 +11,7 @@ ghost use Rattle.omaha_server.specs.Overviews.{publish_of};
 ghost use Rattle.omaha_server.specs.Stopping.{stopping_line};
 ghost use Rattle.profile_toml.specs.Laws.{AreMirrors};
 ghost use Rattle.service_desks.specs.Operators.{IsCall as IsOperatorCall};
-ghost use Rattle.service_desks.specs.States.{GoesOn, State, earlier_in, store};
+ghost use Rattle.service_desks.specs.States.{GoesOn, IsOwed, State, earlier_in, store};
 
 use crate::calls::{end_server, note_answer, note_stop};
 use crate::circumstances::Circumstances;
@@ -101,6 +101,7 @@ fn ask_operator<R: Threads + Wait + AllocGlobal, B: Budgets, K: Records>(
     ensures listed { AreMirrors (B.present desk.new.budgets.now) }
     ensures rising { B.rises desk.new.budgets.now ≡ true }
     ensures followed { ForSome desk.new.due.now (λ next. GoesOn next desk.new.press.now) }
+    ensures owed { IsOwed (K.lasts desk.new.records.now) desk.new.due.now }
     ensures called { IsOperatorCall
         (record { mirrors = B.present desk.old.budgets.now; history = desk.old.press.now; store = store (K.first desk.old.records.now) (K.kept desk.old.records.now) desk.old.due.now })
         (Asks body.now moment (answer_in result))
@@ -122,9 +123,11 @@ fn ask_over<S, R: Threads + Wait + AllocGlobal, B: Budgets, K: Records>(
     requires listed { AreMirrors (B.present budgets.old) }
     requires rising { B.rises budgets.old ≡ true }
     requires followed { ForSome due.old (λ next. GoesOn next press.old) }
+    requires owed { IsOwed (K.lasts records.old) due.old }
     ensures listed { AreMirrors (B.present budgets.new) }
     ensures rising { B.rises budgets.new ≡ true }
     ensures followed { ForSome due.new (λ next. GoesOn next press.new) }
+    ensures owed { IsOwed (K.lasts records.new) due.new }
     ensures called { IsOperatorCall
         (record { mirrors = B.present budgets.old; history = press.old; store = store (K.first records.old) (K.kept records.old) due.old })
         (Asks body.now moment (answer_in result))
@@ -210,9 +213,11 @@ fn answer_checked<S: System<P>, R: Threads + Wait + AllocGlobal, P: Port, B: Bud
     requires listed { AreMirrors (B.present budgets.old) }
     requires rising { B.rises budgets.old ≡ true }
     requires followed { ForSome due.old (λ next. GoesOn next press.old) }
+    requires owed { IsOwed (K.lasts records.old) due.old }
     ensures listed { AreMirrors (B.present budgets.new) }
     ensures rising { B.rises budgets.new ≡ true }
     ensures followed { ForSome due.new (λ next. GoesOn next press.new) }
+    ensures owed { IsOwed (K.lasts records.new) due.new }
     ensures called { ChecksBody setup.now.place.now.packages_must_exist (sizes_at (S.edges setup.now.system.now) setup.now.place.now)
         (record { mirrors = B.present budgets.old; history = press.old; store = store (K.first records.old) (K.kept records.old) due.old })
         body.now moment (answer_in result)
@@ -272,6 +277,7 @@ pub(crate) struct Checked<
     ghost listed: { AreMirrors (B.present budgets.now) },
     ghost rising: { B.rises budgets.now ≡ true },
     ghost followed: { ForSome due.now (λ next. GoesOn next press.now) },
+    ghost owed: { IsOwed (K.lasts records.now) due.now },
 }
 
 // rule: Packages that must exist

@@ -10,13 +10,14 @@ use Rattle.service_desks.specs.Scripts.{IsAhead, IsPublished}
 use Rattle.service_desks.specs.States.{Publication, with_due, with_script}
 use Rattle.service_desks.specs.declared.attempt.Unkept.{Unkept}
 
--- a script was kept and its edition shown, or it was not kept; or it was kept and is due, as memory ran out
+-- a script was kept and its edition shown, or it was not kept; if memory ran out, it was kept and its edition is due, or
+-- all is as before
 abbrev pub IsKept : List ℕ → History → Publication → Result (Result (Unit {0}) Unkept) Off → Publication → Type 0
 IsKept script next before (Ok (Ok done)) after =
     after ≡ record { history = next; store = with_script before.store script }
 IsKept script next before (Ok (Err unkept)) after = after ≡ before
 IsKept script next before (Err off.Memory) after =
-    after ≡ record { history = before.history; store = with_due before.store script next }
+    (after ≡ before) ⊎ (after ≡ record { history = before.history; store = with_due before.store script next })
 IsKept script next before (Err off.Closed) after = ⊥
 
 -- what a script comes to that was read, if nothing is due

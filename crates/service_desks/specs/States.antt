@@ -1,5 +1,5 @@
 -- What the operator's desk changes: what is published, what is kept of it, and the mirrors' budgets; this project's profile.
-use Rattle.std.specs.Prelude.{◌≡◌, ℕ, ◌-◌, List, [], ◌∷◌, ◌++◌, length, take, Option, None, Some, unwrap_or}
+use Rattle.std.specs.Prelude.{◌≡◌, ℕ, ◌-◌, Bool, false, List, [], ◌∷◌, ◌++◌, length, take, Option, None, Some, unwrap_or}
 use Rattle.catalogue.specs.Histories.{History}
 use Rattle.kept_records.specs.Keeping.{record_of}
 use Rattle.kept_records.specs.declared.record.Kind.TheVariants as kind
@@ -39,6 +39,10 @@ publication_of state = record { history = state.history; store = state.store }
 -- a history begins with all batches of an earlier one, said as an equality
 abbrev pub GoesOn : History → History → Type 0
 GoesOn later earlier = take (length earlier) later ≡ earlier
+
+-- if no restart finds the records, nothing is due
+abbrev pub IsOwed : Bool → Option History → Type 0
+IsOwed lasts due = lasts ≡ false → due ≡ None
 
 -- how many editions there were before that of the first record
 abbrev pub earlier_in : Store → ℕ

@@ -1,6 +1,6 @@
 // What an attempt to keep a script or a raise comes to.
 
-ghost use Rattle.std.specs.Prelude.{◌≡◌, ◌++◌, ◌∷◌, [], MatchResult, Some};
+ghost use Rattle.std.specs.Prelude.{◌≡◌, ◌++◌, ◌∷◌, [], false, IsOk, MatchResult, Some};
 ghost use Rattle.http_desks.specs.Calls.{answer_in};
 ghost use Rattle.kept_records.specs.Keeping.{record_of};
 ghost use Rattle.service_desks.specs.Attempts.{ComesTo, IsUnkeptAttempt, attempt_in, unkept_by};
@@ -53,7 +53,9 @@ pub(crate) fn keep<K: Records>(
     ensures kept { MatchResult result
         (λ _. K.kept records.new ≡ K.kept records.old ++ record_of kind bytes.now ∷ [])
         (λ _. K.kept records.new ≡ K.kept records.old) }
+    ensures succeeds { K.lasts records.old ≡ false → IsOk result }
     ensures first { K.first records.new ≡ K.first records.old }
+    ensures lasts { K.lasts records.new ≡ K.lasts records.old }
 {
     match records.append(alloc, kind, bytes) {
         Ok(()) => Ok(()),

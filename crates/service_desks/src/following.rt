@@ -11,7 +11,7 @@ ghost use Rattle.profile_toml.specs.Laws.{AreMirrors};
 ghost use Rattle.kept_records.specs.declared.record.Record.{Record};
 ghost use Rattle.catalogue.specs.declared.mirror.Mirror.{Mirror};
 ghost use Rattle.service_desks.specs.Following.{AdoptsNext, Follows, GivesWay, IsRaiseBy, IsReplyWithout, IsScriptAfter, number_in, state};
-ghost use Rattle.service_desks.specs.States.{GoesOn};
+ghost use Rattle.service_desks.specs.States.{GoesOn, IsOwed};
 
 use crate::lines::{Line, reply_with};
 use crate::raises::{raise_of, value_of};
@@ -124,10 +124,12 @@ fn adopt_script<R: Threads + Wait + AllocGlobal, K: Records>(
     requires workers { (1 ≤ workers) × (workers ≤ 16) }
     requires none { due.old ≡ None }
     requires read { K.was_read records.old }
+    requires lasting { K.lasts records.old ≡ true }
     ensures adopts { (mirrors : List Mirror) (known : List Record) → K.kept records.old ≡ known ++ record_of Script script.now ∷ [] → AdoptsNext
         (state mirrors press.old (K.first records.old) known due.old) result
         (state mirrors press.new (K.first records.new) (K.kept records.new) due.new) }
     ensures due { ForSome due.new (λ next. GoesOn next press.new) }
+    ensures lasts { K.lasts records.new ≡ true }
 {
     match prepare_script(rt, press, workers, script) {
         Ok(next) => match show_or_owe(rt, press, due, next) {
@@ -153,6 +155,7 @@ fn adopt_raise<R: Wait, B: Budgets, K: Records>(
     ensures adopts { (history : History) (known : List Record) → K.kept records.old ≡ known ++ record_of Raise raise.now ∷ [] → AdoptsNext
         (state (B.present budgets.old) history (K.first records.old) known None) result
         (state (B.present budgets.new) history (K.first records.new) (K.kept records.new) None) }
+    ensures lasts { K.lasts records.new ≡ K.lasts records.old }
     ensures rises { B.rises budgets.new ≡ true }
     ensures listed { AreMirrors (B.present budgets.old) → AreMirrors (B.present budgets.new) }
 {
@@ -182,6 +185,7 @@ fn adopt_next<R: Threads + Wait + AllocGlobal, B: Budgets, K: Records>(
         (state (B.present budgets.old) press.old (K.first records.old) (K.kept records.old) due.old) result
         (state (B.present budgets.new) press.new (K.first records.new) (K.kept records.new) due.new) }
     ensures due { ForSome due.new (λ next. GoesOn next press.new) }
+    ensures owed { IsOwed (K.lasts records.new) due.new }
     ensures rises { B.rises budgets.new ≡ true }
     ensures listed { AreMirrors (B.present budgets.old) → AreMirrors (B.present budgets.new) }
 {
@@ -225,11 +229,13 @@ pub(crate) fn follow<R: Threads + Wait + AllocGlobal, B: Budgets, K: Records>(
 ) -> Result<Answer, Off>
     requires workers { (1 ≤ workers) × (workers ≤ 16) }
     requires due { ForSome due.old (λ next. GoesOn next press.old) }
+    requires owed { IsOwed (K.lasts records.old) due.old }
     requires rises { B.rises budgets.old ≡ true }
     ensures follows { Follows
         (state (B.present budgets.old) press.old (K.first records.old) (K.kept records.old) due.old) (answer_in result)
         (state (B.present budgets.new) press.new (K.first records.new) (K.kept records.new) due.new) }
     ensures due { ForSome due.new (λ next. GoesOn next press.new) }
+    ensures owed { IsOwed (K.lasts records.new) due.new }
     ensures rises { B.rises budgets.new ≡ true }
     ensures listed { AreMirrors (B.present budgets.old) → AreMirrors (B.present budgets.new) }
 {
@@ -259,11 +265,13 @@ pub(crate) fn give_way<R: Threads + Wait + AllocGlobal, B: Budgets, K: Records>(
 ) -> Result<Answer, Off>
     requires workers { (1 ≤ workers) × (workers ≤ 16) }
     requires due { ForSome due.old (λ next. GoesOn next press.old) }
+    requires owed { IsOwed (K.lasts records.old) due.old }
     requires rises { B.rises budgets.old ≡ true }
     ensures gives_way { GivesWay
         (state (B.present budgets.old) press.old (K.first records.old) (K.kept records.old) due.old) (answer_in result)
         (state (B.present budgets.new) press.new (K.first records.new) (K.kept records.new) due.new) }
     ensures due { ForSome due.new (λ next. GoesOn next press.new) }
+    ensures owed { IsOwed (K.lasts records.new) due.new }
     ensures rises { B.rises budgets.new ≡ true }
     ensures listed { AreMirrors (B.present budgets.old) → AreMirrors (B.present budgets.new) }
 {

@@ -4,7 +4,7 @@ ghost use Rattle.http_desks.specs.Calls.{answer_in};
 ghost use Rattle.profile_toml.specs.Laws.{AreMirrors};
 ghost use Rattle.service_desks.specs.Following.{state};
 ghost use Rattle.service_desks.specs.Operators.{IsPerformed, IsRaised};
-ghost use Rattle.service_desks.specs.States.{GoesOn};
+ghost use Rattle.service_desks.specs.States.{GoesOn, IsOwed};
 
 use crate::attempt::Attempt;
 use crate::dumps::dump;
@@ -30,11 +30,13 @@ fn raise<R: Threads + Wait + AllocGlobal, B: Budgets, K: Records>(
 ) -> Result<Answer, Off>
     requires workers { (1 ≤ workers) × (workers ≤ 16) }
     requires due { ForSome due.old (λ next. GoesOn next press.old) }
+    requires owed { IsOwed (K.lasts records.old) due.old }
     requires rises { B.rises budgets.old ≡ true }
     ensures is { IsRaised
         (state (B.present budgets.old) press.old (K.first records.old) (K.kept records.old) due.old) body.now (answer_in result)
         (state (B.present budgets.new) press.new (K.first records.new) (K.kept records.new) due.new) }
     ensures due { ForSome due.new (λ next. GoesOn next press.new) }
+    ensures owed { IsOwed (K.lasts records.new) due.new }
     ensures rises { B.rises budgets.new ≡ true }
     ensures listed { AreMirrors (B.present budgets.old) → AreMirrors (B.present budgets.new) }
 {
@@ -57,11 +59,13 @@ fn publish<R: Threads + Wait + AllocGlobal, B: Budgets, K: Records>(
 ) -> Result<Answer, Off>
     requires workers { (1 ≤ workers) × (workers ≤ 16) }
     requires due { ForSome due.old (λ next. GoesOn next press.old) }
+    requires owed { IsOwed (K.lasts records.old) due.old }
     requires rises { B.rises budgets.old ≡ true }
     ensures is { IsPerformed
         (state (B.present budgets.old) press.old (K.first records.old) (K.kept records.old) due.old) body.now (answer_in result)
         (state (B.present budgets.new) press.new (K.first records.new) (K.kept records.new) due.new) }
     ensures due { ForSome due.new (λ next. GoesOn next press.new) }
+    ensures owed { IsOwed (K.lasts records.new) due.new }
     ensures rises { B.rises budgets.new ≡ true }
     ensures listed { AreMirrors (B.present budgets.old) → AreMirrors (B.present budgets.new) }
 {
@@ -105,6 +109,7 @@ pub struct Operator<'r, 'p, 'b, 'k, 'd, R: Threads + Wait + AllocGlobal, B: Budg
     ghost listed: { AreMirrors (B.present budgets.now) },
     ghost rising: { B.rises budgets.now ≡ true },
     ghost followed: { ForSome due.now (λ next. GoesOn next press.now) },
+    ghost owed: { IsOwed (K.lasts records.now) due.now },
     ghost counted: { (1 ≤ workers) × (workers ≤ 16) },
 }
 

@@ -1,15 +1,17 @@
 // Scripts that are kept and published.
 
-ghost use Rattle.std.specs.Prelude.{◌≡◌, ◌≤◌, ◌+◌, ◌^◌, MatchResult, None, Some, Err, Ok, length, unwrap_or};
+ghost use Rattle.std.specs.Prelude.{◌≡◌, ◌≤◌, ◌+◌, ◌^◌, ◌++◌, ◌∷◌, [], MatchResult, None, Some, Err, Ok, false, length, unwrap_or};
 ghost use Rattle.std.specs.Option.{ForSome};
 ghost use Rattle.catalogue.specs.declared.edit.Edit.{Edit};
 ghost use Rattle.http_desks.specs.declared.desk.Off.TheVariants.{Memory};
 ghost use Rattle.profile_toml.specs.Reading.{script_of_bytes};
+ghost use Rattle.kept_records.specs.Keeping.{record_of};
+ghost use Rattle.kept_records.specs.declared.record.Kind.TheVariants.{Script};
 ghost use Rattle.publisher.specs.Beginnings.{StartsWith};
 ghost use Rattle.service_desks.specs.Attempts.{attempt_in};
 ghost use Rattle.service_desks.specs.Keeping.{IsKept, IsScriptAnswer};
 ghost use Rattle.service_desks.specs.Scripts.{Attempts, publish_reply};
-ghost use Rattle.service_desks.specs.States.{GoesOn, publication};
+ghost use Rattle.service_desks.specs.States.{GoesOn, IsOwed, publication};
 
 use crate::attempt::{Attempt, Unkept, give_up, keep, replied};
 use crate::lines::{Line, reply_with};
@@ -86,8 +88,35 @@ pub(crate) fn show_or_owe<R: Wait>(
     }
 }
 
+// Shows an edition, and then keeps its script, which no restart finds. If memory runs out, the edition is dropped.
+fn show_and_keep<R: Wait + AllocGlobal, K: Records>(
+    rt: &R,
+    press: &mut Press,
+    records: &mut K,
+    next: Prepared,
+    input: &[u8],
+) -> Result<(), Off>
+    requires follows { StartsWith next press.old }
+    requires passing { K.lasts records.old ≡ false }
+    ensures shows { MatchResult result
+        (λ _. (press.new ≡ next) × (K.kept records.new ≡ K.kept records.old ++ record_of Script input.now ∷ []))
+        (λ off. (off ≡ Memory) × (press.new ≡ press.old) × (K.kept records.new ≡ K.kept records.old)) }
+    ensures first { K.first records.new ≡ K.first records.old }
+    ensures lasts { K.lasts records.new ≡ K.lasts records.old }
+{
+    match press.show_prepared(rt, next) {
+        Ok(_receipt) => match keep(rt.alloc(), records, Kind::Script, input) {
+            Ok(()) => Ok(()),
+            Err(_) => unreachable!(),
+        },
+        Err(_dropped) => Err(Off::Memory),
+    }
+}
+
 // rule: Kept script
-// Keeps a script, and then shows its edition, or leaves it due if memory runs out. A script that isn't kept isn't shown.
+// rule: Due edition
+// Keeps a script, and then shows its edition, or leaves it due if memory runs out. A script that isn't kept isn't shown. If
+// no restart finds the script, its edition is shown first, or dropped.
 fn keep_and_show<R: Wait + AllocGlobal, K: Records>(
     rt: &R,
     press: &mut Press,
@@ -98,10 +127,17 @@ fn keep_and_show<R: Wait + AllocGlobal, K: Records>(
 ) -> Result<Result<(), Unkept>, Off>
     requires follows { StartsWith next press.old }
     requires none { due.old ≡ None }
-    ensures { IsKept input.now next
+    ensures keeps { IsKept input.now next
         (publication press.old (K.first records.old) (K.kept records.old) due.old) result
         (publication press.new (K.first records.new) (K.kept records.new) due.new) }
+    ensures owed { IsOwed (K.lasts records.new) due.new }
 {
+    if !records.lasts() {
+        return match show_and_keep(rt, press, records, next, input) {
+            Ok(()) => Ok(Ok(())),
+            Err(off) => Err(off),
+        };
+    }
     if let Err(unkept) = keep(rt.alloc(), records, Kind::Script, input) {
         return Ok(Err(unkept));
     }
@@ -126,9 +162,10 @@ fn publish_script<R: Threads + Wait + AllocGlobal, K: Records>(
     requires workers { (1 ≤ workers) × (workers ≤ 16) }
     requires none { due.old ≡ None }
     requires read { script_of_bytes input.now ≡ Ok (script.0, script.1) }
-    ensures { IsScriptAnswer input.now script.0 script.1
+    ensures answers { IsScriptAnswer input.now script.0 script.1
         (publication press.old (K.first records.old) (K.kept records.old) due.old) (attempt_in result)
         (publication press.new (K.first records.new) (K.kept records.new) due.new) }
+    ensures owed { IsOwed (K.lasts records.new) due.new }
 {
     let alloc = rt.alloc();
     let earlier = records.first() - 1;
@@ -159,8 +196,8 @@ fn publish_script<R: Threads + Wait + AllocGlobal, K: Records>(
 /// script, as `F3 BadEntry edit[0].on`; 503 and `history unreachable` or `history in doubt`, if no server of the history
 /// replies. Each is one line. The first record is that of the edition of its number. It is `Overtaken` if another server's
 /// record has its number, and `Closed` if the history fails; in both and after 503 it isn't published. If memory runs out,
-/// for the reply too, nothing is published but what was due, and nothing is kept; or the script is kept and its edition is
-/// due.
+/// for the reply too, nothing is published but what was due, and nothing is kept; or, if a restart finds the records, the
+/// script is kept and its edition is due.
 pub(crate) fn perform_script<R: Threads + Wait + AllocGlobal, K: Records>(
     rt: &R,
     press: &mut Press,
@@ -171,10 +208,12 @@ pub(crate) fn perform_script<R: Threads + Wait + AllocGlobal, K: Records>(
 ) -> Result<Attempt, Off>
     requires workers { (1 ≤ workers) × (workers ≤ 16) }
     requires due { ForSome due.old (λ next. GoesOn next press.old) }
+    requires owed { IsOwed (K.lasts records.old) due.old }
     ensures performs { Attempts
         (publication press.old (K.first records.old) (K.kept records.old) due.old) input.now (attempt_in result)
         (publication press.new (K.first records.new) (K.kept records.new) due.new) }
     ensures due { ForSome due.new (λ next. GoesOn next press.new) }
+    ensures owed { IsOwed (K.lasts records.new) due.new }
 {
     match show_due(rt, press, due) {
         Ok(()) => {}

@@ -2,5 +2,5 @@ use Rattle.std.proofs.Common.{arith}
 use Rattle.std.proofs.lemmas.Grind.{common_steps}
 use Rattle.service_desks.proofs.scripts.publish_script.Goals as goal
 
-pub returns-in-Ok-Ok : goal.returns-in-Ok-Ok
-returns-in-Ok-Ok g c = grind (arith, common_steps)
+pub returns-in-Ok-Ok-clause-answers : goal.returns-in-Ok-Ok-clause-answers
+returns-in-Ok-Ok-clause-answers g c = grind (arith, common_steps)
