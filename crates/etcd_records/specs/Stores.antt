@@ -1,5 +1,5 @@
 -- Which records a path opens; this project's profile.
-use Rattle.std.specs.Prelude.{◌≡◌, ℕ, ◌*◌, min, max, List, length, Option, None, Some, Result, Ok, Err, true, ⊤}
+use Rattle.std.specs.Prelude.{◌≡◌, ℕ, Bool, ◌*◌, min, max, List, length, Option, None, Some, Result, Ok, Err, true, ⊤}
 use Rattle.etcd_records.specs.Paths.{Parts, addresses_in}
 use Rattle.etcd_records.specs.declared.paths.fault.EtcdPathFault.{EtcdPathFault}
 use Rattle.kept_records.specs.declared.fault.OpenFault.{OpenFault}
@@ -21,6 +21,11 @@ known_in kept_of (InEtcd records) = records.kept
 abbrev pub first_in : {R K : Type 0} → (K → ℕ) → AnyRecords R K → ℕ
 first_in first_of (InFile records) = first_of records
 first_in first_of (InEtcd records) = 1
+
+-- whether a restart finds them, as it does those in etcd
+abbrev pub lasts_in : {R K : Type 0} → (K → Bool) → AnyRecords R K → Bool
+lasts_in lasts (InFile records) = lasts records
+lasts_in lasts (InEtcd records) = true
 
 -- the last known one was read
 abbrev pub was_read_in : {R K : Type 0} → (K → Type 0) → AnyRecords R K → Type 0

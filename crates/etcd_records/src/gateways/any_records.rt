@@ -20,7 +20,7 @@ pub enum AnyRecords<'a, R: Net<Listener = TcpListener, Stream = TcpStream> + Clo
 
 impl<R: Net<Listener = TcpListener, Stream = TcpStream> + Clock, K: Records> Records
     for AnyRecords<'_, R, K> {
-    ghost use Rattle.etcd_records.specs.Stores.{first_in, known_in, was_read_in};
+    ghost use Rattle.etcd_records.specs.Stores.{first_in, known_in, lasts_in, was_read_in};
 
     ghost kept = { λ records. known_in K.kept records };
 
@@ -28,10 +28,19 @@ impl<R: Net<Listener = TcpListener, Stream = TcpStream> + Clock, K: Records> Rec
 
     ghost was_read = { λ records. was_read_in K.was_read records };
 
+    ghost lasts = { λ records. lasts_in K.lasts records };
+
     fn first(&self) -> u64 {
         match self {
             AnyRecords::InFile(records) => records.first(),
             AnyRecords::InEtcd(records) => records.first(),
+        }
+    }
+
+    fn lasts(&self) -> bool {
+        match self {
+            AnyRecords::InFile(records) => records.lasts(),
+            AnyRecords::InEtcd(records) => records.lasts(),
         }
     }
 
