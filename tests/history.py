@@ -15,8 +15,8 @@ prints its name and, if it fails, what was expected and what was found; then the
 - `disk`: on a full disk a publish gets 500 and changes nothing, and with room the next start goes on. Only root can mount
   such a disk.
 - `mishaps`: N times, 300 by default, something happens to the files of a server that was killed: one of them is missing,
-  empty or cut, or has a wrong bit, or the file is older than its log. Then a start has all that was replied to, or a line
-  that says why it doesn't begin. A log that is older than its file, or of another history, isn't tried: SQLite takes it.
+  empty or cut, or has a wrong bit, or is older than the other, or the log is another history's. Then a start has all that
+  was replied to, or a line that says why it doesn't begin, and leaves both files as they are.
 - `sqlite3`: Debian's `sqlite3`, if it is installed, reads the file and finds it whole.
 """
 
@@ -310,13 +310,15 @@ def full(program):
     print("full")
 
 
-def pairs(program, count):
-    """The files of a server, and the records of its history, after each of its calls; it is killed at the end."""
+def pairs(program, count, share=0):
+    """The files of a server, and the records of its history, after each of its calls; it is killed at the end.
+
+    The first script gives this share, and each one a higher one."""
     with folder_of() as folder:
         server, found = Server(program, folder), []
         for number in range(1, count):
             budget = 2000000000000 + number
-            body = share_script(number // 2 + 1, number) if number % 2 else f"raise m0 {budget}"
+            body = share_script(number // 2 + 1, share + number) if number % 2 else f"raise m0 {budget}"
             check("mishaps: a call", 200, server.operate(body)[0])
             files = tuple((folder / name).read_bytes() for name in ("history.db", "history.db-wal"))
             found.append((files, number + 1))
@@ -324,10 +326,10 @@ def pairs(program, count):
         return found
 
 
-def mishap(chance, files, older):
+def mishap(chance, files, older, other):
     """What happens to the two files, and its name."""
     at, names = chance.randrange(2), ("the file", "the log")
-    kind = chance.choice(["missing", "empty", "cut", "a wrong bit"] + ["older"] * (at == 0))
+    kind = chance.choice(["missing", "empty", "cut", "a wrong bit", "older"] + ["another's"] * at)
     data = files[at]
     if kind == "cut":
         data = data[: chance.randrange(len(data))]
@@ -335,17 +337,17 @@ def mishap(chance, files, older):
         place = chance.randrange(len(data))
         data = data[:place] + bytes([data[place] ^ 1 << chance.randrange(8)]) + data[place + 1 :]
     else:
-        data = {"missing": None, "empty": b"", "older": older[at]}[kind]
+        data = {"missing": None, "empty": b"", "older": older[at], "another's": other[at]}[kind]
     return f"{names[at]}: {kind}", tuple(data if index == at else file for index, file in enumerate(files))
 
 
 def mishaps(program, count):
     chance, began, refused = random.Random(1), time.monotonic(), 0
-    kept = pairs(program, 12)
+    kept, others = pairs(program, 12), pairs(program, 12, 500)
     for _ in range(count):
         place = chance.randrange(3, len(kept))
         files, records = kept[place]
-        name, left = mishap(chance, files, kept[chance.randrange(place)][0])
+        name, left = mishap(chance, files, kept[chance.randrange(place)][0], chance.choice(others)[0])
         with folder_of() as folder:
             for path, data in zip(("history.db", "history.db-wal"), left):
                 if data is not None:
@@ -354,6 +356,8 @@ def mishaps(program, count):
             status, printed, error = ends(program, folder, *more)
             if status == 1 and printed == "" and error.startswith("omaha: history history.db: "):
                 refused += 1
+                found = tuple(path.read_bytes() if path.exists() else None for path in (folder / "history.db", folder / "history.db-wal"))
+                check(f"mishaps: {name}: what is left", [data or b"" for data in left], [data or b"" for data in found])
                 continue
             check(f"mishaps: {name}: a start", (0, ""), (status, error))
             listed = run(program, folder, "history", "history.db")[1].splitlines()

@@ -29,6 +29,8 @@ history_fault_string (fault.Open open_fault.Parted) =
     codes "has a log, but its file is missing or empty: put the file back, or move the log away"
 history_fault_string (fault.Open open_fault.Bare) =
     codes "has no table, as without its log: put the log back, or remove the file to begin anew"
+history_fault_string (fault.Open open_fault.Astray) =
+    codes "has a log that is older than it, or another file's: move the log away"
 history_fault_string (fault.Open (open_fault.Damaged number)) = codes "record " ++ decimal number ++ codes ": damaged or missing"
 history_fault_string (fault.Open (open_fault.Failed reason)) = cause_string reason
 history_fault_string (fault.Append append.Taken) = codes "another program has added a record"

@@ -83,6 +83,9 @@ impl fmt::Display for HistoryFault {
             HistoryFault::Open(OpenFault::Bare) => f.write_str(
                 "has no table, as without its log: put the log back, or remove the file to begin anew",
             ),
+            HistoryFault::Open(OpenFault::Astray) => f.write_str(
+                "has a log that is older than it, or another file's: move the log away",
+            ),
             HistoryFault::Open(OpenFault::Damaged(number)) => {
                 write!(f, "record {number}: damaged or missing")
             }

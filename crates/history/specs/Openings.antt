@@ -1,5 +1,5 @@
 -- What an open finds; this project's profile.
-use Rattle.std.specs.Prelude.{◌≡◌, ◌⊎◌, ◌+◌, ◌++◌, ◌≤◌, ◌^◌, All, ℕ, List, [], length}
+use Rattle.std.specs.Prelude.{◌≡◌, ◌⊎◌, ◌+◌, ◌-◌, ◌++◌, ◌<◌, ◌≤◌, ◌^◌, All, ℕ, List, [], Some, length, slice_get}
 use Rattle.kept_records.specs.Checksums.{checksum_from, checksums_from, no_checksum}
 use Rattle.kept_records.specs.declared.record.Record.{Record}
 use Rattle.sqlite.specs.Files.{Finds, file_state, over_files}
@@ -43,6 +43,17 @@ pub record IsOpenedAt {D : Type 0} {g : Ghosts D} (start : Image) (now : Log (Fi
 -- records: it has its header of 32 bytes, and one of 24 before what it has of a page
 abbrev pub IsParted : ℕ → ℕ → Type 0
 IsParted file log = (file ≡ 0) × (32 + 24 ≤ log)
+
+-- records with these checksums, numbered from this number on, go on from so many others, numbered from a first one on, of
+-- which the last one has this checksum: the record of the same number has it too, or all were replaced since
+abbrev pub GoesOnFrom : ℕ → ℕ → List ℕ → ℕ → List (List ℕ) → Type 0
+GoesOnFrom first count sum number sums =
+    (count ≡ 0) ⊎ (first < number) ⊎ ((first ≡ number) × (slice_get sums (count - 1) ≡ Some sum))
+
+-- rule: Log older than its file
+-- records that were read with a log, numbered from this number on, go on from those that the file has without it
+abbrev pub GoesOn : ℕ → ℕ → List ℕ → ℕ → List Record → Type 0
+GoesOn first count sum number kept = GoesOnFrom first count sum number (checksums_from number no_checksum kept)
 
 -- rule: Closed history
 -- the next open of the files finds the records that the history kept

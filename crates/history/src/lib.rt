@@ -16,6 +16,7 @@ mod causes;
 mod checksums;
 mod history;
 pub mod laws;
+mod lone_files;
 mod marks;
 mod opening;
 mod parting;

@@ -21,11 +21,11 @@ use sqlite::{Alter, Connection, Row};
 use std::alloc::Global;
 use streams::Trace;
 
-// What rows say: the records, the number of the first one, and the checksum of the last one.
-struct Listed {
-    first: u64,
-    kept: Vec<Record>,
-    sum: [u8; 32],
+/// What rows say: the records, the number of the first one, and the checksum of the last one.
+pub(crate) struct Listed {
+    pub(crate) first: u64,
+    pub(crate) kept: Vec<Record>,
+    pub(crate) sum: [u8; 32],
 }
 
 // Looks whether the checksums of records are these, and returns the last one's.
@@ -69,8 +69,11 @@ fn read_listed(alloc: Global, rows: &[Row]) -> Result<Listed, OpenFault>
     }
 }
 
-// The records of a database that was just opened, and the number of the first.
-fn read_all<S: Alter>(alloc: Global, conn: &mut Connection<S>) -> Result<Listed, OpenFault>
+/// Returns the records of a database that was just opened, the number of the first and the checksum of the last.
+pub(crate) fn read_all<S: Alter>(
+    alloc: Global,
+    conn: &mut Connection<S>,
+) -> Result<Listed, OpenFault>
     requires opens { HasCleanDisk (state S.Store conn.old) → Opens (state S.Store conn.old) }
     ensures numbered { IfOk result (λ read. (1 ≤ read.first) × (read.first ≤ 2 ^ 53) × (length read.kept.items ≤ 65536)) }
     ensures summed { IfOk result (λ read. read.sum ≡ checksum_from read.first no_checksum read.kept.items) }

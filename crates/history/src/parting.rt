@@ -42,14 +42,26 @@ fn log_size<R: Files + AllocGlobal>(rt: &R, path: &str) -> Result<u64, AllocErro
     }
 }
 
-/// Returns whether the file at a path is a new one: missing or empty. Nothing is opened.
+/// What there is at a path.
+#[derive(Clone, Copy, Drop)]
+pub(crate) struct Pair {
+    /// The file is a new one: missing or empty.
+    pub(crate) is_new: bool,
+    /// The log beside it may have records.
+    pub(crate) is_logged: bool,
+}
+
+/// Looks at the file at a path and the log beside it. Nothing is opened.
 ///
-/// Fails with `Parted` if it is, and the log beside it may have records.
-pub(crate) fn check_parted<R: Files + AllocGlobal>(rt: &R, path: &str) -> Result<bool, OpenFault> {
+/// Fails with `Parted` if the file is missing or empty, and the log may have records.
+pub(crate) fn check_parted<R: Files + AllocGlobal>(rt: &R, path: &str) -> Result<Pair, OpenFault> {
     let file = file_size(rt, path);
     match log_size(rt, path) {
         Ok(log) if is_parted(file, log) => Err(OpenFault::Parted),
-        Ok(_) => Ok(file == 0),
+        Ok(log) => Ok(Pair {
+            is_new: file == 0,
+            is_logged: log >= MIN_LOG,
+        }),
         Err(_) => Err(OpenFault::Failed(Cause::Memory)),
     }
 }

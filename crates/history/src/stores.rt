@@ -15,8 +15,9 @@ ghost use Rattle.history.specs.Openings.{IsOpenedAt};
 use crate::appending::Change;
 use crate::causes::open_fault_of;
 use crate::history::History;
+use crate::lone_files::{Lone, check_log, read_lone};
 use crate::opening::take_opened;
-use crate::parting::check_parted;
+use crate::parting::{Pair, check_parted};
 use kept_records::{AppendFault, Cause, Kind, OpenFault, ReadFault, Record, Records, Stores};
 use sqlite::{Connection, FileFrom, FileStore, Start, Wary};
 use sqlite_pager::Options;
@@ -60,6 +61,17 @@ fn open_files<S: Start>(
     }
 }
 
+// The records that the file at a path has without its log, if it has one.
+fn read_logged(rt: &HostRuntime, path: &str, pair: Pair) -> Result<Option<Lone>, OpenFault> {
+    if !pair.is_logged {
+        return Ok(None);
+    }
+    match read_lone(rt, path) {
+        Ok(lone) => Ok(lone),
+        Err(_) => Err(OpenFault::Failed(Cause::Memory)),
+    }
+}
+
 // rule: Opened history
 /// Opens the history in the file at a path, or makes one in a new or empty file, and returns its records in order.
 ///
@@ -68,7 +80,9 @@ fn open_files<S: Start>(
 /// files before; a program passes `Wary`, which syncs each commit twice.
 ///
 /// Fails with `Parted` if the file is missing or empty and its log may have records, which an open would drop; then nothing is
-/// opened, made or written. Fails with `Bare` if the file has no table, and isn't new: then nothing is made of it.
+/// opened, made or written. Fails with `Bare` if the file has no table, and isn't new: then nothing is made of it. Fails with
+/// `Astray` if the records that are read with the log don't go on from those that the file has without it: the log is older,
+/// or another file's. Then both stay as they are.
 pub fn open_at<S: Start>(
     rt: &HostRuntime,
     path: &str,
@@ -78,14 +92,14 @@ pub fn open_at<S: Start>(
     ensures known { IfOk result (λ opened. IsKnown opened.0 opened.1.items limit) }
     ensures opened { IfOk result (λ opened. HasCleanDisk (file_state opened.0.conn) → IsOpenedAt (image_at S.Start) opened.0) }
 {
-    let is_new = match check_parted(rt, path) {
-        Ok(is_new) => is_new,
-        Err(fault) => return Err(fault),
-    };
-    match open_files(rt, path, start) {
-        Ok(conn) => take_opened(rt.alloc(), conn, is_new, limit),
-        Err(fault) => Err(fault),
+    let pair = check_parted(rt, path)?;
+    let lone = read_logged(rt, path, pair)?;
+    let conn = open_files(rt, path, start)?;
+    let (history, records) = take_opened(rt.alloc(), conn, pair.is_new, limit)?;
+    if let Some(lone) = &lone {
+        check_log(rt.alloc(), lone, history.first, &records)?;
     }
+    Ok((history, records))
 }
 
 /// A history in a file of the system.

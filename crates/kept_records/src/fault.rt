@@ -77,6 +77,9 @@ pub enum OpenFault {
     /// There is a page without a table, as a file that lost its log has, or one whose first start was cut off.
     #[error("it has no table: its log is missing or damaged")]
     Bare,
+    /// The log isn't that of the file: it is older, or another file's.
+    #[error("its log is older than its file, or another file's")]
+    Astray,
     /// The record of this number isn't the one that was kept, or is missing.
     #[error("record {0} is damaged")]
     Damaged(u64),
