@@ -6,6 +6,7 @@ use Rattle.std.proofs.lemmas.List.Sums.{fold-append}
 use Rattle.std.specs.List.{All}
 use Rattle.kept_records.specs.declared.fault.Cause.{Cause}
 use Rattle.kept_records.specs.declared.fault.Cause.TheVariants.{Unreachable}
+use Rattle.kept_records.specs.declared.fault.Unreached.TheVariants.{NoReply}
 use Rattle.etcd_records.specs.declared.exchange.Exchange.{Exchange}
 use Rattle.etcd_records.specs.declared.gateway.Response.{Response}
 use Rattle.etcd_records.specs.declared.gateway.GatewayFault.{GatewayFault}
@@ -46,7 +47,7 @@ one_missed old before new path body count cause why is_doubtful later came were 
   counted = length-append were.done (exchange_of path body came ∷ []) ∙ ap (λ it. it + 1) were.counted;
   misses = All-append (IsMiss path body) were.done (exchange_of path body came ∷ []) were.misses
       (All-one (IsMiss path body) (exchange_of path body came) ((refl, refl), none));
-  cause_is = is_cause ∙ sym (fold-append (λ (earlier : Cause) (it : Exchange). cause_of it.outcome) Unreachable were.done (exchange_of path body came ∷ []));
+  cause_is = is_cause ∙ sym (fold-append (λ (earlier : Cause) (it : Exchange). cause_of it.outcome) (Unreachable NoReply) were.done (exchange_of path body came ∷ []));
   doubt_is = is_later ∙ ap (λ it. it || may_be_done (outcome_of came)) were.doubt_is
       ∙ sym (or_false (in_doubt were.done) (may_be_done (outcome_of came)))
       ∙ sym (list_any-append (λ (it : Exchange). may_be_done it.outcome) were.done (exchange_of path body came ∷ []));

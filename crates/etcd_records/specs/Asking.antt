@@ -5,6 +5,7 @@ use Rattle.serde_json.specs.Data.{Data}
 use Rattle.serde_json.specs.View.{view}
 use Rattle.kept_records.specs.declared.fault.Cause.{Cause}
 use Rattle.kept_records.specs.declared.fault.Cause.TheVariants.{Unreachable}
+use Rattle.kept_records.specs.declared.fault.Unreached.TheVariants.{NoReply}
 use Rattle.etcd_records.specs.declared.asking.Asked.{Asked}
 use Rattle.etcd_records.specs.declared.asking.Asked.TheVariants as asked
 use Rattle.etcd_records.specs.declared.exchange.Exchange.{Exchange}
@@ -37,7 +38,7 @@ in_doubt attempts = list_any (λ (it : Exchange). may_be_done it.outcome) attemp
 
 -- why the last attempt brought no reply
 abbrev pub last_cause : List Exchange → Cause
-last_cause attempts = fold (λ (earlier : Cause) (it : Exchange). cause_of it.outcome) Unreachable attempts
+last_cause attempts = fold (λ (earlier : Cause) (it : Exchange). cause_of it.outcome) (Unreachable NoReply) attempts
 
 -- the last attempt brought this reply, and those before it none
 pub record IsReplied (most : ℕ) (path body : List ℕ) (done : List Exchange) (reply : Data)

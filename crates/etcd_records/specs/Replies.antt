@@ -7,6 +7,7 @@ use Rattle.serde_json.specs.Read.{read}
 use Rattle.serde_json.specs.View.{view}
 use Rattle.kept_records.specs.declared.fault.Cause.{Cause}
 use Rattle.kept_records.specs.declared.fault.Cause.TheVariants as cause
+use Rattle.kept_records.specs.declared.fault.Unreached.TheVariants.{NoReply}
 use Rattle.etcd_records.specs.declared.exchange.Outcome.{Outcome}
 use Rattle.etcd_records.specs.declared.exchange.Outcome.TheVariants.{Responded, Missed}
 use Rattle.etcd_records.specs.declared.gateway.GatewayFault.TheVariants as fault
@@ -46,9 +47,9 @@ may_be_done (Missed fault.Memory) = true
 -- why there is no reply
 abbrev pub cause_of : Outcome → Cause
 cause_of (Responded status body) =
-    if status == 200 then cause.Unreadable else if rejects status then cause.TooLarge else cause.Unreachable
-cause_of (Missed fault.Unsent) = cause.Unreachable
-cause_of (Missed fault.Unanswered) = cause.Unreachable
+    if status == 200 then cause.Unreadable else if rejects status then cause.TooLarge else cause.Unreachable NoReply
+cause_of (Missed fault.Unsent) = cause.Unreachable NoReply
+cause_of (Missed fault.Unanswered) = cause.Unreachable NoReply
 cause_of (Missed fault.Memory) = cause.Memory
 
 -- rule: Attempt at a request

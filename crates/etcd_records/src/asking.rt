@@ -6,7 +6,7 @@ ghost use Rattle.etcd_records.specs.Asking.{IsHeard, heard_of};
 
 use crate::gateway::Gateway;
 use crate::replies::{Said, hear};
-use kept_records::Cause;
+use kept_records::{Cause, Unreached};
 use serde_json::Value;
 use std::alloc::Global;
 
@@ -33,7 +33,7 @@ pub(crate) fn ask<G: Gateway>(
     ensures { (done : List Exchange) × (G.exchanges gateway.new ≡ G.exchanges gateway.old ++ done)
         × IsHeard attempts path.now body.now done (heard_of result) }
 {
-    let mut cause = Cause::Unreachable;
+    let mut cause = Cause::Unreachable(Unreached::NoReply);
     let mut in_doubt = false;
     for _attempt in 0..attempts {
         let came = gateway.post(alloc, path, body);

@@ -6,7 +6,7 @@ ghost use Rattle.etcd_records.specs.Exchanges.{outcome_of};
 ghost use Rattle.etcd_records.specs.Replies.{Says, found_in, held_in, is_created, json_of, rejects, reply_of, pair_value};
 
 use crate::gateway::{GatewayFault, Response};
-use kept_records::Cause;
+use kept_records::{Cause, Unreached};
 use serde_json::{Category, Value};
 use std::alloc::{AllocError, Global};
 
@@ -64,7 +64,7 @@ fn hear_response(alloc: Global, response: &Response) -> Result<Said, AllocError>
     if rejects(response.status) {
         return Ok(Said::Missed(Cause::TooLarge, false));
     }
-    Ok(Said::Missed(Cause::Unreachable, true))
+    Ok(Said::Missed(Cause::Unreachable(Unreached::NoReply), true))
 }
 
 // rule: Attempt at a request
@@ -74,8 +74,14 @@ pub(crate) fn hear(alloc: Global, came: &Result<Response, GatewayFault>) -> Resu
 {
     match came {
         Ok(response) => hear_response(alloc, response),
-        Err(GatewayFault::Unsent) => Ok(Said::Missed(Cause::Unreachable, false)),
-        Err(GatewayFault::Unanswered) => Ok(Said::Missed(Cause::Unreachable, true)),
+        Err(GatewayFault::Unsent) => Ok(Said::Missed(
+            Cause::Unreachable(Unreached::NoReply),
+            false,
+        )),
+        Err(GatewayFault::Unanswered) => Ok(Said::Missed(
+            Cause::Unreachable(Unreached::NoReply),
+            true,
+        )),
         Err(GatewayFault::Memory) => Ok(Said::Missed(Cause::Memory, true)),
     }
 }

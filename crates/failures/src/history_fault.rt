@@ -1,11 +1,10 @@
 // What is wrong with a history.
 
 ghost use Rattle.std.specs.Prelude.{◌≡◌, Some};
-ghost use Rattle.failures.specs.HistoryFaults.{cause_string, history_fault_string};
-ghost use Rattle.failures.specs.declared.history_fault.HistoryFault.TheVariants as history;
+ghost use Rattle.failures.specs.HistoryFaults.{append_string, cause_string, history_fault_string, unreached_string};
 
 use crate::record_fault::RecordFault;
-use kept_records::{AppendFault, Cause, OpenFault};
+use kept_records::{AppendFault, Cause, OpenFault, Unreached};
 use std::error::Error;
 use std::fmt;
 
@@ -40,32 +39,60 @@ impl Drop for HistoryFault {
     }
 }
 
-// The words for what made a call fail.
-fn cause_string(cause: Cause) -> &'static str
-    ensures { result.now ≡ cause_string cause }
+// Why no server of a history gave a reply that counts.
+fn unreached_string(unreached: Unreached) -> &'static str
+    ensures { result.now ≡ unreached_string unreached }
 {
-    match cause {
-        Cause::Memory => "out of memory",
-        Cause::DiskFull => "the disk is full",
-        Cause::Disk => "the disk failed",
-        Cause::Damaged => "damaged",
-        Cause::TooLarge => "the record is too large",
-        Cause::Closed => "closed by an earlier failure",
-        Cause::Unreachable => "none of its servers replies",
-        Cause::Unreadable => "a reply of its servers cannot be read",
-        Cause::Shared => "shared by servers, so it isn't compacted",
+    match unreached {
+        Unreached::NoReply => "none of its servers replies",
+        Unreached::OtherCluster => "its servers are of another cluster than before",
+        Unreached::OlderState => "its servers have an older state than before",
     }
 }
 
-// Why a record can't be kept.
-fn append_string(fault: &AppendFault) -> &'static str
-    ensures { result.now ≡ history_fault_string (history.Append fault.now) }
-{
-    match fault {
-        AppendFault::Taken => "another program has added a record",
-        AppendFault::Full => "full",
-        AppendFault::Failed(cause) => cause_string(*cause),
-        AppendFault::Unknown(cause) => cause_string(*cause),
+// What made a call fail, as it prints.
+#[derive(Clone, Copy)]
+struct Reason {
+    cause: Cause,
+}
+
+impl fmt::Display for Reason {
+    ghost output = { λ reason. Some (cause_string reason.cause) };
+
+    fn fmt<W: fmt::Write>(&self, f: &mut fmt::Formatter<W>) -> fmt::Result {
+        match self.cause {
+            Cause::Memory => f.write_str("out of memory"),
+            Cause::DiskFull => f.write_str("the disk is full"),
+            Cause::Disk => f.write_str("the disk failed"),
+            Cause::Damaged => f.write_str("damaged"),
+            Cause::TooLarge => f.write_str("the record is too large"),
+            Cause::Closed => f.write_str("closed by an earlier failure"),
+            Cause::Unreachable(unreached) => f.write_str(unreached_string(unreached)),
+            Cause::Unreadable => f.write_str("a reply of its servers cannot be read"),
+            Cause::Rejected(words) => write!(f, "its servers rejected it: {words}"),
+            Cause::Missing(number) => write!(f, "record {number}: missing"),
+            Cause::Changed(number) => write!(f, "record {number}: damaged"),
+            Cause::Shared => f.write_str("shared by servers, so it isn't compacted"),
+        }
+    }
+}
+
+// Why a record can't be kept, as it prints.
+#[derive(Clone, Copy)]
+struct Unkept {
+    fault: AppendFault,
+}
+
+impl fmt::Display for Unkept {
+    ghost output = { λ unkept. Some (append_string unkept.fault) };
+
+    fn fmt<W: fmt::Write>(&self, f: &mut fmt::Formatter<W>) -> fmt::Result {
+        match self.fault {
+            AppendFault::Taken => f.write_str("another program has added a record"),
+            AppendFault::Full => f.write_str("full"),
+            AppendFault::Failed(cause) => Reason { cause }.fmt(f),
+            AppendFault::Unknown(cause) => Reason { cause }.fmt(f),
+        }
     }
 }
 
@@ -89,8 +116,8 @@ impl fmt::Display for HistoryFault {
             HistoryFault::Open(OpenFault::Damaged(number)) => {
                 write!(f, "record {number}: damaged or missing")
             }
-            HistoryFault::Open(OpenFault::Failed(cause)) => f.write_str(cause_string(*cause)),
-            HistoryFault::Append(fault) => f.write_str(append_string(fault)),
+            HistoryFault::Open(OpenFault::Failed(cause)) => Reason { cause: *cause }.fmt(f),
+            HistoryFault::Append(fault) => Unkept { fault: *fault }.fmt(f),
             HistoryFault::Record(number, fault) => write!(f, "record {number}: {fault}"),
             HistoryFault::OtherProfile => f.write_str(
                 "begins with another profile: leave --profile out, or begin another file",

@@ -1,7 +1,7 @@
 // Records in memory.
 
 use crate::calls::{follows, record_of};
-use kept_records::{MemoryRecords, Turn};
+use kept_records::{MemoryRecords, Turn, Words};
 use std::alloc::Global;
 
 // The store before the calls, a bar, and the calls. `other` is another writer's record, `turn` what happens at an append,
@@ -66,5 +66,32 @@ fn is_so(alloc: Global, row: &str) -> Option<bool> {
 fn keeps_records_by_their_turns(rt: HostRuntime) {
     for row in ROWS.lines() {
         assert!(rt; is_so(rt.alloc(), row) == Some(true), "{row}");
+    }
+}
+
+// A message, and its first words.
+const MESSAGES: [(&str, &str); 3] = [
+    ("no room", "no room"),
+    ("\n\x1b[2Ja\u{e9}~\x7f", "  [2Ja  ~ "),
+    (
+        "0123456789012345678901234567890123456789012345678901234567890",
+        "012345678901234567890123456789012345678901234567890123456789",
+    ),
+];
+
+fn begins_with(alloc: Global, message: &str, wanted: &str) -> Option<bool> {
+    let words = Words::of(message.as_bytes());
+    let printed = format!(in alloc; "{words}").ok()?;
+    Some(printed.as_str() == wanted)
+}
+
+// rule: First words of a message
+#[test]
+fn prints_the_first_words_of_a_message(rt: HostRuntime) {
+    for (message, wanted) in MESSAGES {
+        assert!(rt;
+            begins_with(rt.alloc(), message, wanted) == Some(true),
+            "{wanted}"
+        );
     }
 }

@@ -1,6 +1,21 @@
 // Why records could not be kept or read.
 
+use crate::words::Words;
 use thiserror::Error;
+
+/// Why no server of a shared history gave a reply that counts.
+#[derive(Clone, Copy, Debug, Drop, PartialEq, Eq, Error)]
+pub enum Unreached {
+    /// None replies.
+    #[error("no server of the history replies")]
+    NoReply,
+    /// One replies, of another cluster than those that replied before.
+    #[error("its servers are of another cluster than before")]
+    OtherCluster,
+    /// One replies, with a state that is older than one that was seen before.
+    #[error("its servers have an older state than before")]
+    OlderState,
+}
 
 /// What made a call fail.
 #[derive(Clone, Copy, Debug, Drop, PartialEq, Eq, Error)]
@@ -23,12 +38,21 @@ pub enum Cause {
     /// An earlier failure closed it, and nothing is written until it is opened again.
     #[error("an earlier failure closed it, restart the server")]
     Closed,
-    /// No server of a shared history replies.
-    #[error("no server of the history replies")]
-    Unreachable,
+    /// No server of a shared history replies, or none whose reply counts.
+    #[error("{0}")]
+    Unreachable(Unreached),
     /// A reply of the servers of a shared history can't be read.
     #[error("a reply of the history's servers cannot be read")]
     Unreadable,
+    /// A server of a shared history rejected the request, with a message that begins so.
+    #[error("{0}")]
+    Rejected(Words),
+    /// The record of this number is missing: it was removed from where the history is kept.
+    #[error("record {0}: missing")]
+    Missing(u64),
+    /// The record of this number isn't the one that was kept.
+    #[error("record {0}: damaged")]
+    Changed(u64),
     /// Other servers share the history, and know its records by their numbers.
     #[error("a shared history isn't compacted, export it and begin another")]
     Shared,

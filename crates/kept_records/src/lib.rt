@@ -4,7 +4,8 @@
 //! handle knows the first ones: `append` adds one after those, and `next` reads the one after those, which another handle
 //! may have added. Contracts see the known records as `kept`, and the number of the first one as `first`: read
 //! `specs/Keeping.antt`. `compact` replaces all records by one. A call fails with an `AppendFault` or a `ReadFault`, most
-//! with a `Cause`. `Stores` opens the records at a path.
+//! with a `Cause`, which may have the first `Words` of a message: read `specs/Messages.antt`. `Stores` opens the records
+//! at a path.
 //!
 //! `MemoryRecords` keeps records in memory, for tests and for a program that keeps none. A test says what happens at each
 //! call by a list of `Turn`s: read `specs/Memories.antt`.
@@ -22,12 +23,14 @@ mod records;
 mod storing;
 mod turn;
 mod unkept;
+mod words;
 
 pub use crate::checksum::{NO_CHECKSUM, checksum_of};
-pub use crate::fault::{AppendFault, Cause, OpenFault, ReadFault};
+pub use crate::fault::{AppendFault, Cause, OpenFault, ReadFault, Unreached};
 pub use crate::limits::{DEFAULT_LIMIT, MAX_RECORDS, has_room};
 pub use crate::memory::MemoryRecords;
 pub use crate::record::{Kind, Record};
 pub use crate::records::{Records, Stores};
 pub use crate::turn::Turn;
 pub use crate::unkept::Unkept;
+pub use crate::words::{MAX_WORDS, Words};

@@ -29,8 +29,8 @@ IsUnkeptAttempt (Some (Err off)) = ⊤
 -- why a script or a raise isn't kept, by the fault of its append
 abbrev pub unkept_by : AppendFault → Unkept
 unkept_by append.Taken = unkept.Taken
-unkept_by (append.Failed cause.Unreachable) = unkept.Unreachable
-unkept_by (append.Unknown cause.Unreachable) = unkept.InDoubt
+unkept_by (append.Failed (cause.Unreachable why)) = unkept.Unreachable
+unkept_by (append.Unknown (cause.Unreachable why)) = unkept.InDoubt
 unkept_by other = unkept.Closed
 
 -- a reply that the history is unavailable, in this line, unless memory ran out

@@ -37,8 +37,8 @@ fn unkept_by(fault: AppendFault) -> Unkept
 {
     match fault {
         AppendFault::Taken => Unkept::Taken,
-        AppendFault::Failed(Cause::Unreachable) => Unkept::Unreachable,
-        AppendFault::Unknown(Cause::Unreachable) => Unkept::InDoubt,
+        AppendFault::Failed(Cause::Unreachable(_)) => Unkept::Unreachable,
+        AppendFault::Unknown(Cause::Unreachable(_)) => Unkept::InDoubt,
         _ => Unkept::Closed,
     }
 }

@@ -42,7 +42,7 @@ pub(crate) enum Unadopted {
 impl Unadopted {
     fn by(fault: ReadFault) -> Unadopted {
         match fault {
-            ReadFault::Failed(Cause::Unreachable) => Unadopted::Unreachable,
+            ReadFault::Failed(Cause::Unreachable(_)) => Unadopted::Unreachable,
             ReadFault::Failed(Cause::Memory) => Unadopted::Memory,
             ReadFault::Failed(_) => Unadopted::Closed,
         }
