@@ -11,6 +11,8 @@
 # make serving       tests the server and the walk, after make install, over the loopback
 # make metrics       tests the pages of an operator's address, after make install; it needs promtool
 # make idle          tests the server before thousands of idle and slow connections, after make install; it needs wrk
+# make door          tests that connections which do nothing keep neither the operator nor a client out of the server,
+#                    after make install
 # make history       kills a server with a history 500 times while it publishes, after make install, and looks
 #                    for what it replied to
 # make cluster       tests three servers of one history in etcd, after make install; it needs etcd-server and nginx
@@ -35,7 +37,7 @@ CRATES := $(wordlist 2,$(words $(MAKECMDGOALS)),$(MAKECMDGOALS))
 $(eval $(CRATES):;@:)
 endif
 
-.PHONY: demo test mutants commands serving metrics idle history cluster install deb allocations fuzz bench load instructions $(CRATES)
+.PHONY: demo test mutants commands serving metrics idle door history cluster install deb allocations fuzz bench load instructions $(CRATES)
 
 demo:
 	@examples/demo.py
@@ -71,6 +73,9 @@ metrics:
 
 idle:
 	tests/idle.py
+
+door:
+	tests/door.py
 
 history:
 	tests/history.py

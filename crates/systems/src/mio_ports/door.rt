@@ -21,6 +21,8 @@ pub(crate) struct Door<'a> {
     pub(crate) is_ending: bool,
     // the listener may have a connection
     knocks: bool,
+    // the system has said so when it was asked last
+    has_knocked: bool,
     // the last connection that was accepted failed
     failed: bool,
 }
@@ -33,6 +35,7 @@ impl<'a> Door<'a> {
             sign,
             is_ending: false,
             knocks: true,
+            has_knocked: false,
             failed: false,
         }
     }
@@ -48,9 +51,20 @@ impl<'a> Door<'a> {
         self.knocks && !self.is_ending
     }
 
-    /// Notes that the listener may have a connection.
+    /// Whether the listener has a connection, as the system said when it was asked last.
+    pub(crate) fn has_knocked(&self) -> bool {
+        self.has_knocked
+    }
+
+    /// Notes that the system is asked.
+    pub(crate) fn listen(&mut self) {
+        self.has_knocked = false;
+    }
+
+    /// Notes that the system says that the listener has a connection.
     pub(crate) fn knock(&mut self) {
         self.knocks = true;
+        self.has_knocked = true;
     }
 
     /// Has the system report the listener anew, if it has a connection.
@@ -61,6 +75,7 @@ impl<'a> Door<'a> {
         let fd = listener.raw_fd();
         let asked = registry.reregister(&mut SourceFd(&fd), Token(LISTENER), Interest::READABLE);
         self.knocks = asked.is_err();
+        self.has_knocked = asked.is_err();
     }
 
     /// Has the listener looked at again, if it failed.

@@ -8,13 +8,13 @@ use std::net::Shutdown;
 // The most connections that linger.
 const MAX_LINGERING: usize = 64;
 
-// How many seconds a connection lingers.
-const SECONDS: u64 = 2;
+// How many milliseconds a connection lingers.
+const MILLISECONDS: u64 = 2000;
 
 // How many times its input is dropped at a time, 4096 bytes each.
 const READS: usize = 16;
 
-// A connection whose replies are sent, since a second.
+// A connection whose replies are sent, since a millisecond.
 #[derive(Drop)]
 struct Lingering {
     stream: TcpStream,
@@ -65,7 +65,7 @@ impl LingeringList {
     /// Drops the input of each, and lets those go that have ended or lingered long enough.
     pub(crate) fn drop_inputs(&mut self, now: u64) {
         self.streams.retain(|lingering| {
-            now.saturating_sub(lingering.since) < SECONDS && drop_input(&lingering.stream)
+            now.saturating_sub(lingering.since) < MILLISECONDS && drop_input(&lingering.stream)
         });
     }
 }

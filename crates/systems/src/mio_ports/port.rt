@@ -20,6 +20,9 @@ use std::time::{Clock, Instant};
 // The token of the listener, which no slot has.
 pub(crate) const LISTENER: usize = 1 << 40;
 
+// The number of the clients' listener.
+pub(crate) const CLIENTS: u64 = 0;
+
 // How many events the system reports at a time.
 pub(crate) const EVENTS: usize = 256;
 
@@ -138,9 +141,10 @@ impl<'a, R: Wait + Net + Clock + AllocGlobal> MioPort<'a, R> {
     /// Makes the port of a listener that doesn't block, by these terms. Without a slot it accepts no connection.
     ///
     /// A connection that waits for longer than the terms say is late. If there is no free slot for one more, that which
-    /// has been idle for longest is late at once. Once the sign asks it to end, it accepts no more after a second or
-    /// less, and a connection is late once it waits for the first byte of a message. Returns `None` if memory runs out,
-    /// or the system can't watch the listener.
+    /// has been idle for longest is late at once; it is idle if its last reply is sent, or it has sent no byte for a
+    /// second. If none is idle, a listener other than the clients', 0, has that late which has waited for longest, and for
+    /// a second. Once the sign asks it to end, it accepts no more after a second or less, and a connection is late once it
+    /// waits for the first byte of a message. Returns `None` if memory runs out, or the system can't watch the listener.
     pub fn new(
         rt: &'a R,
         listener: Arc<Listener, Global>,

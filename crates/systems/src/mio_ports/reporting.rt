@@ -1,10 +1,11 @@
 // What a port over sockets has to report without waiting.
 
-ghost use Rattle.std.specs.Prelude.{◌≡◌, ◌⊎◌, ◌<◌, ◌+◌, ℕ, None, Some, true, IfNone, IfSome, IsSome, IsTrue, vec_len};
+ghost use Rattle.std.specs.Prelude.{◌≡◌, ◌⊎◌, ◌<◌, ◌+◌, ℕ, None, Some, true, IfNone, IfSome, IsFalse, IsSome, IsTrue, vec_len};
 ghost use Rattle.http_ports.specs.Books.{accepted_in, slot_waits, slots_after};
 ghost use Rattle.systems.specs.Polled.{MayReport, accepted_of};
+ghost use Rattle.systems.specs.Rooms.{HasWaited, IsIdle, MakesRoom};
 
-use crate::mio_ports::port::MioPort;
+use crate::mio_ports::port::{CLIENTS, MioPort};
 use http_ports::{Change, Event, Last};
 use mio::net::TcpStream;
 use mio::{Interest, Token};
@@ -92,6 +93,14 @@ impl<R: Wait + Clock> MioPort<'_, R> {
         Some(Event::Ready(slot))
     }
 
+    // How many milliseconds have passed since the start.
+    pub(crate) fn present(&self) -> u64 {
+        match self.start.elapsed(self.rt) {
+            Ok(passed) => passed.as_millis().min(u128::from(u64::MAX)) as u64,
+            Err(_) => self.lists.times.present,
+        }
+    }
+
     // Whether a connection may be accepted.
     pub(crate) fn may_accept(&self) -> bool
         ensures { IsTrue result → self.now.accepted < self.now.terms.limit }
@@ -114,11 +123,12 @@ impl<R: Wait + Clock> MioPort<'_, R> {
         let slot = self.take_free()?;
         match self.accept_at(slot) {
             Some(stream) => {
-                self.lists.times.accepted(slot);
+                let now = self.present();
+                self.lists.times.accepted(slot, now);
                 self.lists.drained.accepted(slot);
                 self.book.accept(slot, stream);
                 self.accepted = accepted;
-                // no idle connection makes room for one that may not be there
+                // no connection makes room for one that may not be there
                 if self.lists.free.len() == 0 {
                     self.door.ask(self.poll.registry());
                 }
@@ -176,35 +186,83 @@ impl<R: Wait + Clock> MioPort<'_, R> {
         None
     }
 
-    // The slot whose connection has been idle for longest, if one is.
-    fn longest_idle(&self) -> Option<usize>
-        ensures { IfSome result (λ slot. (slot < vec_len self.now.book.places)
+    // Since when the connection of a slot waits, if it does and may make room: if it is idle, or has waited for a second.
+    fn evictable_since(&self, slot: usize, is_idle: bool) -> Option<u64>
+        requires within { slot < vec_len self.now.book.places }
+        ensures waits { IfSome result (λ _. slot_waits (slots_after self.now.book.moves slot) ≡ Some true) }
+        ensures idle { IfSome result (λ _. IsTrue is_idle → IsIdle self.now.lists.times.waits.items self.now.lists.times.present slot) }
+        ensures waited { IfSome result (λ _. IsFalse is_idle
+            → HasWaited self.now.lists.times.waits.items self.now.lists.times.present slot) }
+    {
+        if self.book.waits(slot) != Some(true) {
+            return None;
+        }
+        if is_idle {
+            self.lists.times.idle_since(slot)
+        } else {
+            self.lists.times.waiting_since(slot)
+        }
+    }
+
+    // The slot of the connection that has waited for longest, of those that are idle, or have waited for a second.
+    fn longest(&self, is_idle: bool) -> Option<usize>
+        ensures waits { IfSome result (λ slot. (slot < vec_len self.now.book.places)
             × (slot_waits (slots_after self.now.book.moves slot) ≡ Some true)) }
+        ensures idle { IfSome result (λ slot. IsTrue is_idle
+            → IsIdle self.now.lists.times.waits.items self.now.lists.times.present slot) }
+        ensures waited { IfSome result (λ slot. IsFalse is_idle
+            → HasWaited self.now.lists.times.waits.items self.now.lists.times.present slot) }
     {
         let mut longest = None;
         let mut first = u64::MAX;
         for slot in 0..self.book.capacity() {
-            let since = self.lists.times.idle_since(slot).unwrap_or(u64::MAX);
-            if since < first && self.book.waits(slot) == Some(true) {
-                first = since;
-                longest = Some(slot);
+            if let Some(since) = self.evictable_since(slot, is_idle) {
+                if since < first {
+                    first = since;
+                    longest = Some(slot);
+                }
             }
         }
         longest
     }
 
-    // Reports the connection that has been idle for longest, if no slot is free and one more could be accepted.
-    fn report_idle(&mut self) -> Option<Event>
+    // rule: Room for one more
+    // The slot of the connection that makes room for one more: that which has been idle for longest; if none is idle, the
+    // operator's port has that which has waited for longest.
+    fn room_maker(&self) -> Option<usize>
+        ensures waits { IfSome result (λ slot. (slot < vec_len self.now.book.places)
+            × (slot_waits (slots_after self.now.book.moves slot) ≡ Some true)) }
+        ensures room { IfSome result (MakesRoom self.now.lists.times.waits.items self.now.lists.times.present self.now.terms.listener) }
+    {
+        let idle = self.longest(true);
+        if idle.is_some() || self.terms.listener == CLIENTS {
+            return idle;
+        }
+        self.longest(false)
+    }
+
+    // Whether one more connection could be accepted, and no slot is free.
+    pub(crate) fn is_crowded(&self) -> bool {
+        self.may_accept() && self.lists.free.len() == 0
+    }
+
+    // Reports the connection that makes room for one more, if no slot is free and one more waits.
+    fn report_evicted(&mut self) -> Option<Event>
         ensures reports { MayReport (vec_len self.old.book.places) result (slots_after self.old.book.moves) (slots_after self.new.book.moves) }
         ensures same { IfNone result (self.new.book ≡ self.old.book) }
         ensures capacity { vec_len self.new.book.places ≡ vec_len self.old.book.places }
         ensures accepted { accepted_in self.new.book.moves ≡ accepted_in self.old.book.moves + accepted_of result }
         ensures terms { self.new.terms ≡ self.old.terms }
     {
-        if !self.may_accept() || self.lists.free.len() > 0 {
+        if !self.is_crowded() {
             return None;
         }
-        let slot = self.longest_idle()?;
+        let slot = self.room_maker()?;
+        if !self.door.has_knocked() {
+            // another port may have accepted it since
+            self.door.ask(self.poll.registry());
+            return None;
+        }
         Some(self.report_expired(slot))
     }
 
@@ -225,7 +283,7 @@ impl<R: Wait + Clock> MioPort<'_, R> {
         if let Some(event) = self.report_late() {
             return Some(event);
         }
-        self.report_idle()
+        self.report_evicted()
     }
 
     // Whether all connections were accepted, or the port is to end, and none is open or lingers.

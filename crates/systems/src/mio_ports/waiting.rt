@@ -17,19 +17,17 @@ impl<R: Wait + Clock> MioPort<'_, R> {
         ensures book { self.new.book ≡ self.old.book }
         ensures terms { self.new.terms ≡ self.old.terms }
     {
-        let Ok(passed) = self.start.elapsed(self.rt) else {
-            return;
-        };
-        let now = passed.as_secs();
-        if now != self.lists.times.now {
-            self.lists.times.now = now;
+        let now = self.present();
+        let is_later = now / 1000 != self.lists.times.present / 1000;
+        self.lists.times.present = now;
+        if is_later {
             self.is_due = true;
             self.door.retry();
         }
     }
 
     // How many milliseconds the sockets are waited for: none if there is something to do without them, and few if the
-    // port is to end, or ends once no connection lingers.
+    // port is to end, ends once no connection lingers, or has no slot for a connection that waits.
     fn pause(&self) -> u64 {
         let accepts = self.may_accept() && self.lists.free.len() > 0;
         let lingers = !self.lingering.is_empty() && self.accepted == self.terms.limit;
@@ -37,6 +35,8 @@ impl<R: Wait + Clock> MioPort<'_, R> {
             0
         } else if self.door.is_ending || lingers {
             10
+        } else if self.is_crowded() {
+            100
         } else {
             1000
         }
@@ -57,6 +57,7 @@ impl<R: Wait + Clock> MioPort<'_, R> {
         ensures terms { self.new.terms ≡ self.old.terms }
     {
         let pause = Duration::from_millis(self.pause());
+        self.door.listen();
         let _ = self.poll.poll(&mut self.events, Some(pause));
         let mut room = EVENTS;
         for event in self.events.iter() {
@@ -77,7 +78,7 @@ impl<R: Wait + Clock> MioPort<'_, R> {
             self.is_due = false;
             self.looked = 0;
         }
-        let now = self.lists.times.now;
+        let now = self.lists.times.present;
         self.lingering.drop_inputs(now);
     }
 }
@@ -142,7 +143,8 @@ impl<R: Wait + Clock> Port for MioPort<'_, R> {
         };
         note_read(&mut self.book, slot, into, received);
         if let Received::Bytes(count) = received {
-            self.lists.times.read(slot);
+            let now = self.present();
+            self.lists.times.read(slot, now);
             if count < into.len() {
                 self.lists.drained.read(slot);
             }
@@ -153,9 +155,10 @@ impl<R: Wait + Clock> Port for MioPort<'_, R> {
     fn write(&mut self, slot: usize, bytes: &[u8]) -> Sent {
         let sent = write_stream(self.book.stream(slot), bytes);
         note_write(&mut self.book, slot, bytes, sent);
+        let now = self.present();
         match sent {
-            Sent::Bytes(_) => self.lists.times.written(slot),
-            Sent::Nothing => self.lists.times.held(slot),
+            Sent::Bytes(_) => self.lists.times.written(slot, now),
+            Sent::Nothing => self.lists.times.held(slot, now),
             Sent::Failure => {}
         }
         sent
@@ -168,7 +171,7 @@ impl<R: Wait + Clock> Port for MioPort<'_, R> {
 
     fn close(&mut self, slot: usize) {
         if let Some(stream) = self.book.close(slot) {
-            let now = self.lists.times.now;
+            let now = self.lists.times.present;
             self.lingering.close(stream, now);
         }
         if let Some(address) = self.lists.peers.get_mut(slot) {
