@@ -1,5 +1,5 @@
-//! Worked rows of catalogues: the order of versions, the files of packages, the graphs of tracks, and tables of prices, made
-//! by several threads, and kept by editions and reviews; plans; calls without memory; and what a server's threads share:
+//! Worked rows of catalogues: the order of versions, the files of packages, the buckets that a change of cohorts cuts off or
+//! moves, the graphs of tracks, and tables of prices, made by several threads, and kept by editions and reviews; plans; calls without memory; and what a server's threads share:
 //! what is published to views, also by two threads, and budgets that two workers ask for while they are raised.
 //!
 //! It has tests alone, so that the libraries below are proved once. What profiles and scripts are read as, what they are
@@ -10,6 +10,8 @@
 
 #[cfg(test)]
 mod certified;
+#[cfg(test)]
+mod changed_cohorts;
 #[cfg(test)]
 mod closing;
 #[cfg(test)]
