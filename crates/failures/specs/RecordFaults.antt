@@ -14,3 +14,4 @@ fault_string (fault.Script error) = codes "script " ++ profile_fault_string erro
 fault_string (fault.Refused refused) = refused_string refused
 fault_string fault.HistoryFull = codes "history full"
 fault_string fault.Raise = codes "bad raise"
+fault_string fault.Unadopted = codes "not adopted, omaha history says why"

@@ -25,6 +25,8 @@ pub enum RecordFault {
     HistoryFull,
     /// It is no raise of a budget that may be made.
     Raise,
+    /// A server that follows read it and didn't adopt it.
+    Unadopted,
 }
 
 // Written out, so that no caller proves again how each part is dropped.
@@ -38,6 +40,7 @@ impl Drop for RecordFault {
             RecordFault::Refused(_) => {}
             RecordFault::HistoryFull => {}
             RecordFault::Raise => {}
+            RecordFault::Unadopted => {}
         }
     }
 }
@@ -54,6 +57,7 @@ impl fmt::Display for RecordFault {
             RecordFault::Refused(refused) => write!(f, "{refused}"),
             RecordFault::HistoryFull => f.write_str("history full"),
             RecordFault::Raise => f.write_str("bad raise"),
+            RecordFault::Unadopted => f.write_str("not adopted, omaha history says why"),
         }
     }
 }

@@ -1,6 +1,6 @@
-// Histories that print on standard error why a script or a raise isn't kept, and why no record can be read.
+// Histories that print on standard error why a script or a raise isn't kept, and why no record can be read or adopted.
 
-use failures::HistoryFault;
+use failures::{HistoryFault, RecordFault};
 use kept_records::{AppendFault, Cause, Kind, OpenFault, ReadFault, Record, Records, Stores};
 use std::alloc::Global;
 use std::rt::HostRuntime;
@@ -8,7 +8,8 @@ use streams::{Shown, offer};
 use values::Text;
 
 /// Histories of other stores. Each prints on standard error why a record after the first one isn't kept, and once why no
-/// further record can be read, until one can be looked for again.
+/// further record can be read, until one can be looked for again. It also prints once which record is forgotten after it was
+/// read, as one is that doesn't follow those before it.
 #[derive(Drop)]
 pub struct ReportingStores<'a, H> {
     /// What has standard error.
@@ -17,13 +18,17 @@ pub struct ReportingStores<'a, H> {
     pub stores: H,
 }
 
-/// A history that prints on standard error why a record after the first one isn't kept, or none can be read.
+/// A history that prints on standard error why a record after the first one isn't kept, or none can be read or adopted.
 #[derive(Drop)]
 pub struct ReportedRecords<'a, K> {
     rt: &'a HostRuntime,
     path: Text,
     is_begun: bool,
     is_read: bool,
+    // the number after that of the last known record
+    next: u64,
+    // the number of the last record that was forgotten, 0 without one
+    forgotten: u64,
     kept: K,
 }
 
@@ -60,6 +65,7 @@ impl<K: Records> Records for ReportedRecords<'_, K> {
         match self.kept.append(alloc, kind, bytes) {
             Ok(()) => {
                 self.is_begun = true;
+                self.next = self.next.saturating_add(1);
                 Ok(())
             }
             Err(fault) => {
@@ -76,6 +82,9 @@ impl<K: Records> Records for ReportedRecords<'_, K> {
             Ok(found) => {
                 self.is_begun = true;
                 self.is_read = true;
+                if found.is_some() {
+                    self.next = self.next.saturating_add(1);
+                }
                 Ok(found)
             }
             Err(ReadFault::Failed(cause)) => {
@@ -90,11 +99,22 @@ impl<K: Records> Records for ReportedRecords<'_, K> {
     }
 
     fn unread(&mut self) -> bool {
-        self.kept.unread()
+        if !self.kept.unread() {
+            return false;
+        }
+        self.next = self.next.saturating_sub(1);
+        if self.forgotten != self.next {
+            let fault = HistoryFault::Record(self.next, RecordFault::Unadopted);
+            report(self.rt, &self.path, fault);
+        }
+        self.forgotten = self.next;
+        true
     }
 
     fn compact(&mut self, alloc: Global, number: u64, bytes: &[u8]) -> Result<(), AppendFault> {
-        self.kept.compact(alloc, number, bytes)
+        self.kept.compact(alloc, number, bytes)?;
+        self.next = number.saturating_add(1);
+        Ok(())
     }
 }
 
@@ -117,6 +137,8 @@ impl<'a, H: Stores> Stores for ReportingStores<'a, H> {
             path: name,
             is_begun: !records.is_empty(),
             is_read: true,
+            next: kept.first().saturating_add(records.len() as u64),
+            forgotten: 0,
             kept,
         };
         Ok((reported, records))
