@@ -361,6 +361,7 @@ fn traffic_of(alloc: Global, workers: usize, service: &Service) -> Traffic {
 /// prints `ready`, opens books of the mirrors' budgets, and lets its workers begin together, each in a thread of its
 /// own: each serves its port, with its portion of the clients' connections, and the calling thread the operator's. No
 /// connection holds another up. Then it prints a line for each mirror: its name and how many bytes it was granted.
+/// A mirror's budget holds for this server since its start: another start, or another server, has the whole of it again.
 /// `gate` is called in each worker's thread before it serves. Returns the ports.
 ///
 /// Fails, in this order, with the log, the folder, the first package that isn't there, memory, no place for a view, the

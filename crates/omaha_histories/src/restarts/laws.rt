@@ -24,8 +24,11 @@ pub fn editions()
 {}
 
 // rule: Restart after a crash
-/// States that a crash within a call of the operator's desk loses nothing that an earlier call published or raised. It
-/// leaves the records from before the call or after it, as `append` of `kept_records` says by its contract in `history`.
+/// States that a crash within a call of the operator's desk loses nothing that an earlier call published or raised, if it
+/// leaves the records that the desk knew before the call or after it.
+///
+/// It says nothing after an append in doubt: then the disk may have one record more than the desk knows. That `append` of
+/// `history` leaves one of the two is a clause of that crate. That this holds at any time within the call is trusted.
 pub fn crashes()
     ensures { CrashesLoseNothing }
 {}
