@@ -1,5 +1,5 @@
 -- What the program prints of a failure, after `omaha: `; this project's profile.
-use Rattle.std.specs.Prelude.{ℕ, Bool, true, false, List, ◌++◌, codes, decimal}
+use Rattle.std.specs.Prelude.{ℕ, ◌==◌, Bool, true, false, if◌then◌else◌, List, ◌++◌, codes, decimal}
 use Rattle.catalogue.specs.FaultStrings.{refused_string}
 use Rattle.omaha_json.specs.Faults.{fault_string}
 use Rattle.package_files.specs.Descriptions.{error_string as reason_text}
@@ -11,6 +11,16 @@ use Rattle.update_client.specs.Faults.{fault_string as walk_fault_text}
 use Rattle.failures.specs.HistoryFaults.{history_fault_string}
 use Rattle.failures.specs.declared.failure.Failure.{Failure}
 use Rattle.failures.specs.declared.failure.Failure.TheVariants as failure
+
+-- what a status says of whoever sent it, and no line of an operator's listener
+abbrev pub status_words : ℕ → List ℕ
+status_words status =
+    if status == 403 then codes "the request has a browser's field: is a proxy before the listener?"
+    else if status == 500 then codes "the server has no memory, or can't keep a record: look at its log"
+    else if status == 502 then codes "a proxy doesn't reach the server"
+    else if status == 503 then codes "a proxy doesn't reach the server"
+    else if status == 504 then codes "a proxy doesn't reach the server"
+    else codes "not an operator's address of an omaha server"
 
 -- rule: Printed failure
 -- `file` and the path as it is shown, perhaps with the reason; the code and name of a fault, with its place; or a
@@ -44,6 +54,8 @@ failure_string failure.Unpublished = codes "unpublished"
 failure_string failure.EndedEarly = codes "ended early"
 failure_string (failure.Walk fault) = walk_fault_text fault
 failure_string (failure.Declined reply) = codes "declined"
+failure_string (failure.Unexpected address status) =
+    codes "status " ++ (decimal status ++ (codes " at " ++ (shown_string address ++ (codes ": " ++ status_words status))))
 failure_string failure.Memory = codes "memory"
 failure_string failure.Write = codes "write"
 

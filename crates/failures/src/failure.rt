@@ -1,5 +1,5 @@
 ghost use Rattle.std.specs.Prelude.{◌≡◌, Some};
-ghost use Rattle.failures.specs.Failures.{failure_string, is_declined, word_of};
+ghost use Rattle.failures.specs.Failures.{failure_string, is_declined, status_words, word_of};
 
 use crate::history_fault::HistoryFault;
 use catalogue::Refused;
@@ -20,8 +20,8 @@ use values::{ReadError, Text};
 #[derive(Debug)]
 pub enum Failure {
     /// The file of a profile, a certificate or a script, of that path, could not be read, or has over 256 MiB, or as
-    /// the script of a check or a review over 262144 bytes; or the log's, of that path, could not be opened; or there
-    /// is no folder of packages of that path. The path prints without control characters.
+    /// a script over 262144 bytes; or the log's, of that path, could not be opened; or there is no folder of packages
+    /// of that path. The path prints without control characters.
     File(Text),
     /// The file at that path can't be described, for that reason. The path prints without control characters.
     Undescribed(Text, DescribeError),
@@ -43,7 +43,7 @@ pub enum Failure {
     Stuck(u128),
     /// The input could not be read to its end.
     Read,
-    /// The input has over 262144 bytes, or as a script to publish over 256 MiB; it prints as `Read` does.
+    /// The input has over 262144 bytes; it prints as `Read` does.
     TooLong,
     /// The request is invalid.
     Request(RequestFault),
@@ -73,9 +73,11 @@ pub enum Failure {
     EndedEarly,
     /// A walk failed.
     Walk(Fault),
-    /// The operator's listener replied so, with another status than 200. Its reply is printed, and nothing else. A script
-    /// that no listener takes is declined with 413 and no body before it is sent.
+    /// The operator's listener replied so, with another status than 200. Its reply is printed, and nothing else.
     Declined(Reply),
+    /// What listens at that address replied with that status, and not as an operator's listener does. The address prints
+    /// without control characters.
+    Unexpected(Text, u16),
     /// Memory ran out.
     Memory,
     /// The reply could not be written.
@@ -112,9 +114,24 @@ impl Drop for Failure {
             Failure::EndedEarly => {}
             Failure::Walk(_) => {}
             Failure::Declined(_) => {}
+            Failure::Unexpected(_, _) => {}
             Failure::Memory => {}
             Failure::Write => {}
         }
+    }
+}
+
+// What a status says of whoever sent it, and no line of an operator's listener.
+fn status_words(status: u16) -> &'static str
+    ensures { result.now ≡ status_words status }
+{
+    match status {
+        403 => "the request has a browser's field: is a proxy before the listener?",
+        500 => "the server has no memory, or can't keep a record: look at its log",
+        502 => "a proxy doesn't reach the server",
+        503 => "a proxy doesn't reach the server",
+        504 => "a proxy doesn't reach the server",
+        _ => "not an operator's address of an omaha server",
     }
 }
 
@@ -195,6 +212,13 @@ impl fmt::Display for Failure {
                     string: address.as_str(),
                 };
                 write!(f, "stopping {address}")
+            }
+            Failure::Unexpected(address, status) => {
+                let address = Shown {
+                    string: address.as_str(),
+                };
+                let words = status_words(*status);
+                write!(f, "status {status} at {address}: {words}")
             }
             Failure::Walk(fault) => fmt::Display::fmt(fault, f),
             _ => f.write_str(word_of(self)),

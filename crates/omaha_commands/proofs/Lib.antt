@@ -1,6 +1,7 @@
 mod AnswerLemmas
 mod CountLemmas
 mod DescriptionLemmas
+mod FormLemmas
 mod KeepingLemmas
 mod NumberLemmas
 mod ReviewLemmas

@@ -1,10 +1,11 @@
 -- The number of a server's edition, as its operator's listener names it; this project's profile.
-use Rattle.std.specs.Prelude.{◌≡◌, ℕ, ◌-◌, Bool, true, false, bytes_eq, if◌then◌else◌, codes, decimal, drop, length, List, ◌++◌, Option, Some, None, Result, Ok, Err, take}
+use Rattle.std.specs.Prelude.{◌≡◌, ℕ, Bool, true, false, codes, decimal, List, ◌++◌, Option, Some, None, Result, Ok, Err}
 use Rattle.streams.specs.Streams.{Known}
 use Rattle.streams.specs.Writing.{IsWritten}
 use Rattle.omaha_arguments.specs.Options.{number_of}
 use Rattle.update_client.specs.declared.posting.Reply.{Reply}
 use Rattle.update_client.specs.declared.walk_at.Limits.{Limits}
+use Rattle.omaha_commands.specs.Forms.{line_after}
 use Rattle.omaha_commands.specs.Operating.{Listeners, max_dump, max_line}
 use Rattle.omaha_commands.specs.Reviewing.{IsUnanswered, probe_script}
 use Rattle.failures.specs.declared.failure.Failure.{Failure}
@@ -16,14 +17,9 @@ line_limits seconds = record { seconds = seconds; reply = max_line }
 abbrev pub dump_limits : ℕ → Limits
 dump_limits seconds = record { seconds = seconds; reply = max_dump }
 
--- the bytes without the line feed at their end, if there is one
-abbrev pub before_feed : List ℕ → Option (List ℕ)
-before_feed rest =
-    if bytes_eq (drop (length rest - 1) rest) (codes "\n") then Some (take (length rest - 1) rest) else None
-
 -- the bytes between `stale ` and a line feed, if the body is that
 abbrev pub digits_said : List ℕ → Option (List ℕ)
-digits_said body = if bytes_eq (take 6 body) (codes "stale ") then before_feed (drop 6 body) else None
+digits_said body = line_after (codes "stale ") body
 
 -- the number that digits write
 abbrev pub number_by : Option (List ℕ) → Option ℕ

@@ -5,9 +5,11 @@ pub mod Certificates
 pub mod Comparing
 pub mod Describing
 pub mod Explaining
+pub mod Forms
 pub mod Graphing
 pub mod Judging
 pub mod Keeping
+pub mod Laws
 pub mod Once
 pub mod Operating
 pub mod Pieces

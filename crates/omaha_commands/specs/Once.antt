@@ -67,6 +67,7 @@ Replies service moment old new (Err (failure.Net address)) = ⊥
 Replies service moment old new (Err (failure.Stopping address)) = ⊥
 Replies service moment old new (Err (failure.Walk fault)) = ⊥
 Replies service moment old new (Err (failure.Declined reply)) = ⊥
+Replies service moment old new (Err (failure.Unexpected address status)) = ⊥
 Replies service moment old new (Err (failure.Package name what)) = ⊥
 Replies service moment old new (Err (failure.History path fault)) = ⊥
 

@@ -1,13 +1,17 @@
 -- What the commands `publish`, `raise`, `dump` and `status` do; this project's profile.
-use Rattle.std.specs.Prelude.{◌≡◌, ◌⊎◌, ◌++◌, ◌≤◌, ◌<◌, ⊤, ℕ, Bool, true, false, List, [], bytes_eq, codes, length, Result, Ok, Err}
+use Rattle.std.specs.Prelude.{◌≡◌, ◌⊎◌, ◌++◌, ◌≤◌, ⊤, ℕ, Bool, true, false, List, bytes_eq, codes, length, Result, Ok, Err}
 use Rattle.std.specs.Io.KnownBytes.{Appends}
 use Rattle.streams.specs.Reading.{IsLonger, IsWhole}
 use Rattle.streams.specs.Streams.{Known}
 use Rattle.streams.specs.Writing.{Breaks}
 use Rattle.update_client.specs.declared.posting.Reply.{Reply}
 use Rattle.omaha_arguments.specs.declared.command.Raise.{Raise}
-use Rattle.profiles.specs.Profiles.{Files, IsUnread, max_profile}
+use Rattle.profiles.specs.Profiles.{Files}
+use Rattle.omaha_commands.specs.Forms.{meaning_of}
+use Rattle.omaha_commands.specs.ScriptFiles.{max_script}
 use Rattle.omaha_commands.specs.ShownReplies.{printed_reply}
+use Rattle.omaha_commands.specs.declared.forms.Meaning.{Meaning}
+use Rattle.omaha_commands.specs.declared.forms.Meaning.TheVariants as meaning
 use Rattle.profiles.specs.Streams.{Streams}
 use Rattle.failures.specs.declared.failure.Failure.{Failure}
 use Rattle.failures.specs.declared.failure.Failure.TheVariants as failure
@@ -16,10 +20,12 @@ use Rattle.failures.specs.declared.failure.Failure.TheVariants as failure
 abbrev pub Listeners : Type 1
 Listeners = List ℕ → List ℕ → Reply → Type 0
 
--- a file's bytes; or it can't be read; or memory ran out
+-- a file's bytes; or it can't be read, or has too many; or memory ran out
 abbrev pub IsRead : Files → List ℕ → Result (List ℕ) Failure → Type 0
-IsRead files path (Ok bytes) = IsWhole (files path) max_profile bytes
-IsRead files path (Err refusal) = IsUnread files path refusal
+IsRead files path (Ok bytes) = IsWhole (files path) max_script bytes
+IsRead files path (Err refusal) =
+    ((refusal ≡ failure.File path) × (((files path).failed ≡ true) ⊎ IsLonger (files path) max_script))
+    ⊎ (refusal ≡ failure.Memory)
 
 -- the path means the standard input
 abbrev pub is_input : List ℕ → Bool
@@ -27,9 +33,9 @@ is_input path = bytes_eq path (codes "-")
 
 -- the bytes of the standard input; or it can't be read, or is too long; or memory ran out
 abbrev pub IsInput : Known → Known → Result (List ℕ) Failure → Type 0
-IsInput old new (Ok bytes) = IsWhole old max_profile bytes
+IsInput old new (Ok bytes) = IsWhole old max_script bytes
 IsInput old new (Err failure.Read) = new.failed ≡ true
-IsInput old new (Err failure.TooLong) = IsLonger old max_profile
+IsInput old new (Err failure.TooLong) = IsLonger old max_script
 IsInput old new (Err failure.Memory) = ⊤
 IsInput old new (Err other) = ⊥
 
@@ -54,14 +60,33 @@ abbrev pub PrintsBody : Bool → List ℕ → Known → Known → Result (Unit {
 PrintsBody shown body before after (Err failure.Memory) = (shown ≡ true) × (after ≡ before)
 PrintsBody shown body before after result = PrintsBytes (printed_reply shown body) before after result
 
--- the reply is printed, and the call succeeds exactly if its status is 200; or the writer failed within it, or memory ran
--- out before
-abbrev pub PrintsReply : Bool → Reply → Known → Known → Result (Unit {0}) Failure → Type 0
-PrintsReply shown reply before after (Ok done) =
-    (reply.status ≡ 200) × PrintsBody shown reply.body.items before after (Ok tt)
-PrintsReply shown reply before after (Err (failure.Declined said)) =
-    (said ≡ reply) × (reply.status ≡ 200 → ⊥) × PrintsBody shown reply.body.items before after (Ok tt)
-PrintsReply shown reply before after (Err other) = PrintsBody shown reply.body.items before after (Err other)
+-- the failure of a listener that replies as no operator's listener does; or memory ran out
+abbrev pub IsUnexpected : List ℕ → ℕ → Failure → Type 0
+IsUnexpected to status refusal = (refusal ≡ failure.Unexpected to status) ⊎ (refusal ≡ failure.Memory)
+
+-- a command ends by that failure, and nothing is printed
+abbrev pub EndsUnexpected : List ℕ → ℕ → Known → Known → Result (Unit {0}) Failure → Type 0
+EndsUnexpected to status before after (Ok done) = ⊥
+EndsUnexpected to status before after (Err refusal) = IsUnexpected to status refusal × (after ≡ before)
+
+-- a reply is printed, and the call fails with it; or the writer failed within it, or memory ran out before
+abbrev pub PrintsDeclined : Bool → Reply → Known → Known → Result (Unit {0}) Failure → Type 0
+PrintsDeclined shown reply before after (Ok done) = ⊥
+PrintsDeclined shown reply before after (Err (failure.Declined said)) =
+    (said ≡ reply) × PrintsBody shown reply.body.items before after (Ok tt)
+PrintsDeclined shown reply before after (Err other) = PrintsBody shown reply.body.items before after (Err other)
+
+-- a reply is printed by what it is, and the call succeeds only if it is the one that was asked for
+abbrev pub PrintsBy : Meaning → Bool → List ℕ → Reply → Known → Known → Result (Unit {0}) Failure → Type 0
+PrintsBy meaning.Done shown to reply before after result = PrintsBody shown reply.body.items before after result
+PrintsBy meaning.Declined shown to reply before after result = PrintsDeclined shown reply before after result
+PrintsBy meaning.Unexpected shown to reply before after result = EndsUnexpected to reply.status before after result
+
+-- the reply to a body is printed by what it is; or memory ran out before
+abbrev pub PrintsReply : Bool → List ℕ → List ℕ → Reply → Known → Known → Result (Unit {0}) Failure → Type 0
+PrintsReply shown to body reply before after result =
+    PrintsBy (meaning_of body reply) shown to reply before after result
+    ⊎ ((result ≡ Err failure.Memory) × (after ≡ before))
 
 -- the listener can't be reached, or sends no whole reply, or a longer one; or memory ran out
 abbrev pub IsUnreached : List ℕ → Result (Unit {0}) Failure → Type 0
@@ -71,7 +96,8 @@ IsUnreached to result = (result ≡ Err (failure.Net to)) ⊎ (result ≡ Err fa
 -- the listener's reply to a body, of so many bytes at most, is printed; or there is none, and nothing is printed
 abbrev pub Calls : Listeners → Bool → ℕ → List ℕ → List ℕ → Known → Known → Result (Unit {0}) Failure → Type 0
 Calls listeners shown most to body before after result =
-    ((reply : Reply) × listeners to body reply × (length reply.body.items ≤ most) × PrintsReply shown reply before after result)
+    ((reply : Reply) × listeners to body reply × (length reply.body.items ≤ most)
+    × PrintsReply shown to body reply before after result)
     ⊎ (IsUnreached to result × (after ≡ before))
 
 -- how many bytes a reply of a line may have, and a dump
@@ -81,24 +107,9 @@ max_line = 65536
 abbrev pub max_dump : ℕ
 max_dump = 268435456
 
--- how many bytes a script may have
-abbrev pub max_posted : ℕ
-max_posted = 262144
-
--- the failure for a longer one, which isn't sent: as if a server had rejected it
-abbrev pub IsTooLong : Failure → Type 0
-IsTooLong (failure.Declined reply) = (reply.status ≡ 413) × (reply.body.items ≡ [])
-IsTooLong other = ⊥
-
--- a command ends by that failure
-abbrev pub EndsTooLong : Result (Unit {0}) Failure → Type 0
-EndsTooLong result = (refusal : Failure) × IsTooLong refusal × (result ≡ Err refusal)
-
--- a script's bytes are sent as they are, if they aren't too many
+-- a script's bytes are sent as they are
 abbrev pub PostsBytes : Listeners → Bool → List ℕ → List ℕ → Known → Known → Result (Unit {0}) Failure → Type 0
-PostsBytes listeners shown to script before after result =
-    ((length script ≤ max_posted) × Calls listeners shown max_line to script before after result)
-    ⊎ ((max_posted < length script) × EndsTooLong result × (after ≡ before))
+PostsBytes listeners shown to script before after result = Calls listeners shown max_line to script before after result
 
 -- the word `raise`, the name and the budget are sent as they are, one space between
 abbrev pub Raises : Listeners → Bool → Raise → Known → Known → Result (Unit {0}) Failure → Type 0

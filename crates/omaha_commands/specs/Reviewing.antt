@@ -22,7 +22,10 @@ use Rattle.omaha_arguments.specs.declared.command.Review.{Review}
 use Rattle.omaha_arguments.specs.declared.command.Source.{Source}
 use Rattle.omaha_arguments.specs.declared.command.Source.TheVariants.{Profile, Server}
 use Rattle.update_client.specs.declared.posting.Reply.{Reply}
-use Rattle.omaha_commands.specs.Operating.{Listeners, PrintsBody}
+use Rattle.omaha_commands.specs.Forms.{meaning_by_decline}
+use Rattle.omaha_commands.specs.Operating.{IsUnexpected, Listeners, PrintsBody}
+use Rattle.omaha_commands.specs.declared.forms.Meaning.{Meaning}
+use Rattle.omaha_commands.specs.declared.forms.Meaning.TheVariants as meaning
 use Rattle.profiles.specs.Profiles.{Files, IsMade, IsServed, service_of_bytes}
 use Rattle.omaha_commands.specs.ScriptFiles.{IsScriptRead, Script}
 use Rattle.profiles.specs.Streams.{Streams}
@@ -119,9 +122,14 @@ pub record FindsInProfile (files : Files) (path : List ℕ) (asked : Review) (sc
 abbrev pub IsUnanswered : List ℕ → Result Findings Failure → Type 0
 IsUnanswered to found = (found ≡ Err (failure.Net to)) ⊎ (found ≡ Err failure.Memory)
 
--- another reply than the one that is asked for is printed, and the review fails
-abbrev pub IsDeclined : Reply → Result Findings Failure → Type 0
-IsDeclined reply found = found ≡ Ok (record { text = reply.body; verdict = Declined reply.status })
+-- what follows from what another reply is than the one that is asked for: one that says why there is none is found
+abbrev pub FindsDeclined : Meaning → List ℕ → Reply → Result Findings Failure → Type 0
+FindsDeclined meaning.Declined to reply found = found ≡ Ok (record { text = reply.body; verdict = Declined reply.status })
+FindsDeclined other to reply found = (refusal : Failure) × IsUnexpected to reply.status refusal × (found ≡ Err refusal)
+
+-- another reply than the one that is asked for is printed, if an operator's listener replies so, and the review fails
+abbrev pub IsDeclined : List ℕ → Reply → Result Findings Failure → Type 0
+IsDeclined to reply found = FindsDeclined (meaning_by_decline reply.body.items) to reply found
 
 -- a script as if it were written for an edition
 abbrev pub based_on : History → Option Script → Option Script
@@ -139,15 +147,15 @@ pub record FindsInDump (dump : List ℕ) (asked : Review) (script : Option Scrip
   pub follows : FollowsDump asked script made found
 
 -- what is found of the reply to a dump, which may be another one
-abbrev pub FindsInReply : Bool → Reply → Review → Option Script → Result Findings Failure → Type 0
-FindsInReply true reply asked script found = FindsInDump reply.body.items asked script found
-FindsInReply false reply asked script found = IsDeclined reply found
+abbrev pub FindsInReply : Bool → List ℕ → Reply → Review → Option Script → Result Findings Failure → Type 0
+FindsInReply true to reply asked script found = FindsInDump reply.body.items asked script found
+FindsInReply false to reply asked script found = IsDeclined to reply found
 
 -- what is found of what a server has published: its dump is asked for
 abbrev pub FindsPublished : Listeners → List ℕ → Review → Option Script → Result Findings Failure → Type 0
 FindsPublished listeners to asked script found =
     IsUnanswered to found
-    ⊎ ((reply : Reply) × listeners to (codes "dump") reply × FindsInReply (reply.status == 200) reply asked script found)
+    ⊎ ((reply : Reply) × listeners to (codes "dump") reply × FindsInReply (reply.status == 200) to reply asked script found)
 
 -- a script that no server publishes, since no edition has the number 0; the reply names the server's edition
 abbrev pub probe_script : List ℕ
@@ -160,7 +168,7 @@ names_edition body number = bytes_eq body (codes "stale " ++ (decimal number ++ 
 -- what is found by whether the server has the edition that a script is written for
 abbrev pub FindsIfNamed : Bool → Reply → Listeners → List ℕ → Review → Script → Result Findings Failure → Type 0
 FindsIfNamed true reply listeners to asked script found = FindsPublished listeners to asked (Some script) found
-FindsIfNamed false reply listeners to asked script found = IsDeclined reply found
+FindsIfNamed false reply listeners to asked script found = IsDeclined to reply found
 
 -- the same of a reply, unless memory runs out
 abbrev pub FindsSaid : Reply → Listeners → List ℕ → Review → Script → Result Findings Failure → Type 0

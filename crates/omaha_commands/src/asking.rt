@@ -7,6 +7,7 @@ ghost use Rattle.omaha_commands.specs.Asking.{HasEdition, IsEditionLine, digits_
 ghost use Rattle.omaha_commands.specs.Reviewing.{IsUnanswered};
 
 use crate::fetching::{PROBE, ask};
+use crate::forms::line_after;
 use failures::Failure;
 use omaha_arguments::number_of;
 use std::alloc::{AllocError, Global};
@@ -42,8 +43,7 @@ pub(crate) fn dump_limits(seconds: u64) -> Limits
 fn digits_said(body: &[u8]) -> Option<&[u8]>
     ensures { option_map (λ digits. digits.now) result ≡ digits_said body.now }
 {
-    let rest = body.strip_prefix(b"stale ")?;
-    rest.strip_suffix(b"\n")
+    line_after(b"stale ", body)
 }
 
 /// The bytes as a string, if they are UTF-8.

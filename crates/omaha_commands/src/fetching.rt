@@ -4,6 +4,8 @@ ghost use Rattle.std.specs.Prelude.{◌≡◌, ◌==◌, ◌≤◌, Err, IfErr, 
 ghost use Rattle.omaha_commands.specs.Reviewing.{FindsIfNamed, FindsInDump, FindsInReply, FindsOnServer, FindsPublished, FindsSaid, FindsScriptOn, IsDeclined, IsUnanswered, based_on, names_edition};
 
 use crate::asking::{SECONDS, dump_limits, line_limits};
+use crate::forms::{Meaning, meaning_by_decline};
+use crate::operating::unexpected;
 use crate::reviewing::{Findings, Verdict, review_by};
 use catalogue::Batch;
 use editions::Edition;
@@ -38,12 +40,15 @@ pub(crate) fn ask<R: Connector>(
 }
 
 // What is found if a server sent another reply than the one that was asked for.
-fn declined(reply: Reply) -> Findings
-    ensures { IsDeclined reply (Ok result) }
+fn declined(to: &Text, reply: Reply) -> Result<Findings, Failure>
+    ensures { IsDeclined to.now reply result }
 {
-    Findings {
-        verdict: Verdict::Declined(reply.status),
-        text: reply.body,
+    match meaning_by_decline(reply.body.as_slice()) {
+        Meaning::Declined => Ok(Findings {
+            verdict: Verdict::Declined(reply.status),
+            text: reply.body,
+        }),
+        _ => Err(unexpected(to, reply.status)),
     }
 }
 
@@ -80,16 +85,17 @@ fn review_dump<R: Threads + Sync>(
 fn review_reply<R: Threads + Sync>(
     rt: &R,
     alloc: Global,
+    to: &Text,
     reply: Reply,
     asked: &Review,
     script: Option<(u64, Batch)>,
 ) -> Result<Findings, Failure>
-    ensures { FindsInReply (reply.status == 200) reply asked.now script result }
+    ensures { FindsInReply (reply.status == 200) to.now reply asked.now script result }
 {
     if reply.status == 200 {
         review_dump(rt, alloc, reply.body.as_slice(), asked, script)
     } else {
-        Ok(declined(reply))
+        declined(to, reply)
     }
 }
 
@@ -104,7 +110,7 @@ fn review_published<R: Connector + Threads + Sync>(
     ensures { FindsPublished (R.operated rt.now) to.now asked.now script result }
 {
     match ask(rt, alloc, to, dump_limits(SECONDS), b"dump") {
-        Ok(reply) => review_reply(rt, alloc, reply, asked, script),
+        Ok(reply) => review_reply(rt, alloc, to, reply, asked, script),
         Err(failure) => Err(failure),
     }
 }
@@ -132,7 +138,7 @@ fn review_if<R: Connector + Threads + Sync>(
     if named {
         review_published(rt, alloc, to, asked, Some(script))
     } else {
-        Ok(declined(reply))
+        declined(to, reply)
     }
 }
 

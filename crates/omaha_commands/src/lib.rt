@@ -9,7 +9,8 @@
 //!
 //! `walk_on` is walked by `update_client`: read `specs/Walking.antt`; `publish_on`, `raise_on`, `dump_on` and
 //! `status_on` post by it: read `specs/Operating.antt`, for a script that is only checked `specs/Judging.antt`, and for
-//! its packages `specs/Stocking.antt`. `stop_on` also waits for the end of a server: read `specs/Stopping.antt`.
+//! its packages `specs/Stocking.antt`. What the listener may reply is in `specs/Forms.antt`, and `laws` says that an
+//! operator's desk replies nothing else. `stop_on` also waits for the end of a server: read `specs/Stopping.antt`.
 //!
 //! `reports` has what is reported of an edition, and the check of a table by several threads.
 //!
@@ -23,9 +24,11 @@ mod comparing;
 mod describing;
 mod explaining;
 mod fetching;
+mod forms;
 mod graphing;
 mod judging;
 mod keeping;
+pub mod laws;
 mod once;
 mod operating;
 mod reporting;

@@ -3,11 +3,12 @@
 ghost use Rattle.std.specs.Prelude.{◌≡◌, IfErr, IfOk, Ok, Err, false};
 ghost use Rattle.omaha_commands.specs.Asking.{IsNoted, Notes};
 ghost use Rattle.omaha_commands.specs.Judging.{Publishes};
-ghost use Rattle.omaha_commands.specs.Operating.{Calls, Dumps, IsRead, IsScript, IsTooLong, PostsBytes, PrintsBody, PrintsBytes, PrintsReply, PrintsStatus, Raises, is_input, max_line};
+ghost use Rattle.omaha_commands.specs.Operating.{Calls, Dumps, IsRead, IsScript, IsUnexpected, PostsBytes, PrintsBody, PrintsBy, PrintsBytes, PrintsDeclined, PrintsReply, PrintsStatus, Raises, is_input, max_line};
 ghost use Rattle.omaha_commands.specs.Posting.{Posts, PostsStocked};
 
 use crate::asking::{dump_limits, edition_line, line_limits};
 use crate::fetching::ask;
+use crate::forms::{Meaning, meaning_of};
 use crate::judging::check_on;
 use crate::script_file::MAX_SCRIPT;
 use crate::shown_reply::{encoded_reply, is_plain};
@@ -15,7 +16,6 @@ use crate::stocking::stock_bytes;
 use failures::Failure;
 use omaha_arguments::{Publication, Raise, ServerAsked};
 use package_files::Folders;
-use profiles::MAX_PROFILE;
 use std::alloc::Global;
 use std::thread::Threads;
 use streams::{Disk, ReadFailure, ReadWhole, WriteWhole, offer};
@@ -31,12 +31,12 @@ pub struct Manner {
     pub shown: bool,
 }
 
-// Reads a file.
+// Reads the file of a script.
 fn read_file<R: Disk>(rt: &R, alloc: Global, path: &Text) -> Result<Vec<u8>, Failure>
     ensures ok { IfOk result (λ bytes. IsRead (R.file_at rt.now) path.now (Ok bytes.items)) }
     ensures err { IfErr result (λ failure. IsRead (R.file_at rt.now) path.now (Err failure)) }
 {
-    match rt.read_file(alloc, path.as_str(), MAX_PROFILE) {
+    match rt.read_file(alloc, path.as_str(), MAX_SCRIPT) {
         Ok(bytes) => Ok(bytes),
         Err(ReadFailure::Memory) => Err(Failure::Memory),
         Err(_) => Err(Failure::File(path.clone()?)),
@@ -64,7 +64,7 @@ fn read_script<R: Disk, I: ReadWhole>(
     if !is_input(path.as_str()) {
         return read_file(rt, alloc, path);
     }
-    match reader.read_whole(alloc, MAX_PROFILE) {
+    match reader.read_whole(alloc, MAX_SCRIPT) {
         Ok(bytes) => Ok(bytes),
         Err(failure) => Err(Failure::from(failure)),
     }
@@ -99,19 +99,63 @@ fn print_bytes<W: WriteWhole>(bytes: &[u8], writer: &mut W) -> Result<(), Failur
     }
 }
 
-// Prints a reply, and succeeds if its status is 200.
-fn print_reply<W: WriteWhole>(
+// The failure of a listener that replies as no operator's listener does.
+pub(crate) fn unexpected(to: &Text, status: u16) -> Failure
+    ensures { IsUnexpected to.now status result }
+{
+    match to.clone() {
+        Ok(to) => Failure::Unexpected(to, status),
+        Err(_) => Failure::Memory,
+    }
+}
+
+// Prints a reply that says why there is no other, and fails with it.
+fn print_declined<W: WriteWhole>(
     alloc: Global,
     shown: bool,
     reply: Reply,
     writer: &mut W,
 ) -> Result<(), Failure>
-    ensures { PrintsReply shown reply (W.output writer.old) (W.output writer.new) result }
+    ensures { PrintsDeclined shown reply (W.output writer.old) (W.output writer.new) result }
 {
     match print_body(alloc, shown, reply.body.as_slice(), writer) {
-        Ok(()) if reply.status == 200 => Ok(()),
         Ok(()) => Err(Failure::Declined(reply)),
         Err(failure) => Err(failure),
+    }
+}
+
+// Prints a reply by what it is, and succeeds if the listener did what it was asked for.
+fn print_by<W: WriteWhole>(
+    alloc: Global,
+    shown: bool,
+    meaning: Meaning,
+    to: &Text,
+    reply: Reply,
+    writer: &mut W,
+) -> Result<(), Failure>
+    ensures { PrintsBy meaning shown to.now reply (W.output writer.old) (W.output writer.new) result }
+{
+    match meaning {
+        Meaning::Done => print_body(alloc, shown, reply.body.as_slice(), writer),
+        Meaning::Declined => print_declined(alloc, shown, reply, writer),
+        Meaning::Unexpected => Err(unexpected(to, reply.status)),
+    }
+}
+
+// Prints the reply to a body, unless no operator's listener replies so.
+fn print_reply<W: WriteWhole>(
+    alloc: Global,
+    shown: bool,
+    to: &Text,
+    body: &[u8],
+    reply: Reply,
+    writer: &mut W,
+) -> Result<(), Failure>
+    ensures { PrintsReply shown to.now body.now reply (W.output writer.old) (W.output writer.new) result }
+{
+    match meaning_of(alloc, body, &reply) {
+        Ok(meaning) => print_by(alloc, shown, meaning, to, reply, writer),
+        Err(_) => Err(Failure::Memory),
     }
 }
 
@@ -129,7 +173,7 @@ fn call<R: Connector, W: WriteWhole>(
     ensures { Calls (R.operated rt.now) shown limits.reply to.now body.now (W.output writer.old) (W.output writer.new) result }
 {
     match ask(rt, alloc, to, limits, body) {
-        Ok(reply) => print_reply(alloc, shown, reply, writer),
+        Ok(reply) => print_reply(alloc, shown, to, body, reply, writer),
         Err(failure) => Err(failure),
     }
 }
@@ -149,16 +193,6 @@ pub(crate) fn call_for_line<R: Connector, W: WriteWhole>(
     call(rt, alloc, shown, to, line_limits(seconds), body, writer)
 }
 
-// The failure for a script that no listener takes.
-fn too_long(alloc: Global) -> Failure
-    ensures { IsTooLong result }
-{
-    Failure::Declined(Reply {
-        status: 413,
-        body: Vec::new(alloc),
-    })
-}
-
 // Posts the bytes of a script to an operator's listener, as they are, and prints the reply.
 fn post<R: Connector, W: WriteWhole>(
     rt: &R,
@@ -170,9 +204,6 @@ fn post<R: Connector, W: WriteWhole>(
 ) -> Result<(), Failure>
     ensures { PostsBytes (R.operated rt.now) shown asked.now.to script.now (W.output writer.old) (W.output writer.new) result }
 {
-    if script.len() > MAX_SCRIPT as usize {
-        return Err(too_long(alloc));
-    }
     call_for_line(rt, alloc, shown, &asked.to, asked.timeout, script, writer)
 }
 
@@ -215,9 +246,10 @@ fn post_script<R: Disk + Connector + Folders, I: ReadWhole, W: WriteWhole>(
 /// Posts a script to an operator's listener, as it is, and prints the reply; or only checks it, if that is asked for. The
 /// script is a file, or what the reader has if its path is `-`.
 ///
-/// Fails with the file or the reader, then with `Net` if the listener can't be reached or sends no whole reply; each time
-/// nothing is written. Fails with `Declined` after a reply with another status than 200, and with the writer; also of a
-/// script of more than 262144 bytes, of which nothing is sent. If `shown` the reply is printed without control characters.
+/// Fails with the file or the reader, which may have 262144 bytes, then with `Net` if the listener can't be reached or
+/// sends no whole reply, and with `Unexpected` if no operator's listener replies so; each time nothing is written. Fails
+/// with `Declined` after a reply that says why the script isn't published, and with the writer. If `shown` the reply is
+/// printed without control characters.
 /// A check fails with the script's first fault after the file, with `Net` also if the listener names no edition, with
 /// `Stale` if the script is written for another one, and with its first rejected edit.
 ///
@@ -334,8 +366,8 @@ fn dump_verbosely<R: Connector, W: WriteWhole, E: WriteWhole>(
 /// Prints the profile that an operator's listener dumps. If it is asked for, the number of the server's edition, which is
 /// asked before, is printed on `errors` after it.
 ///
-/// Fails as `publish_on` does without a file, and with `Net` if that number is asked for and the listener names none. After
-/// a failure nothing is printed on `errors`.
+/// Fails as `publish_on` does without a file, and with `Net` if that number is asked for and the listener names none. A
+/// reply that is no profile is unexpected. After a failure nothing is printed on `errors`.
 pub fn dump_on<R: Connector, W: WriteWhole, E: WriteWhole>(
     rt: &R,
     alloc: Global,

@@ -319,8 +319,9 @@ fn print_review<W: WriteWhole>(
 /// Fails, in this order, with the script's file and its first fault; with the profile's file, its first fault and its
 /// first rejected edit; with another base than the profile's edition, and the script's first rejected edit; each time
 /// nothing is printed. Of a server it fails with `Net` if its operator's listener can't be reached or sends no whole
-/// reply. If the server has another edition than the script's base or dumps nothing, its reply is printed, if `shown`
-/// without control characters, and it fails with `Declined`. If the writer fails, a first part is printed. With
+/// reply, and with `Unexpected` if no operator's listener replies so. If the server has another edition than the script's
+/// base or dumps nothing, its reply is printed, if `shown` without control characters, and it fails with `Declined`. If
+/// the writer fails, a first part is printed. With
 /// `strict` it then fails with how many releases are stuck or newly stuck, with new clients whom the script cuts off.
 pub fn review_on<R: Disk + Connector + AllocGlobal + Threads + Sync, W: WriteWhole>(
     rt: &R,

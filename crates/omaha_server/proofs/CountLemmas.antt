@@ -17,7 +17,8 @@ use Rattle.service_desks.specs.States.{State}
 use Rattle.omaha_server.specs.Outcomes.{outcome_in, reach_in, status_word, stop_word}
 use Rattle.omaha_server.specs.Overviews.{Overview, counted_at, counts_after, has_more, publish_of, published_by, publishes_after, settled_count}
 use Rattle.omaha_server.specs.Showing.{ShowsStatus}
-use Rattle.omaha_server.specs.Stopping.{IsEnding, stopping_line}
+use Rattle.operator_pages.specs.Health.{stopping_line}
+use Rattle.omaha_server.specs.Stopping.{IsEnding}
 
 -- a call comes to nothing, and says nothing of the history
 abbrev pub IsNothing : Bool → List ℕ → Result (DeskStatus × List ℕ) Off → Type 0

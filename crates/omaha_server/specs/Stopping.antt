@@ -1,14 +1,11 @@
 -- How a server is asked to end; this project's profile.
-use Rattle.std.specs.Prelude.{◌≡◌, ℕ, true, List, codes, Result, Ok, Err}
+use Rattle.std.specs.Prelude.{◌≡◌, ℕ, true, List, Result, Ok, Err}
 use Rattle.http_desks.specs.declared.desk.DeskStatus.{DeskStatus}
 use Rattle.http_desks.specs.declared.desk.DeskStatus.TheVariants as status
 use Rattle.http_desks.specs.declared.desk.Off.{Off}
 use Rattle.http_desks.specs.declared.desk.Off.TheVariants as off
+use Rattle.operator_pages.specs.Health.{stopping_line}
 use Rattle.omaha_server.specs.Overviews.{IsUnmoved, Overview}
-
--- the reply to whoever asks the server to end
-abbrev pub stopping_line : List ℕ
-stopping_line = codes "stopping\n"
 
 -- rule: Stop of a server
 -- the server was asked to end, and nothing else changed; or there was no memory for the reply

@@ -8,7 +8,7 @@ ghost use Rattle.http_desks.specs.declared.desk.Off.TheVariants.{Memory};
 ghost use Rattle.omaha_server.specs.Checking.{ChecksBody, IsLookedAt, StopsFor, StopsIf};
 ghost use Rattle.omaha_server.specs.Checks.{lacking_line, sizes_at};
 ghost use Rattle.omaha_server.specs.Overviews.{publish_of};
-ghost use Rattle.omaha_server.specs.Stopping.{stopping_line};
+ghost use Rattle.operator_pages.specs.Health.{stopping_line};
 ghost use Rattle.profile_toml.specs.Laws.{AreMirrors};
 ghost use Rattle.service_desks.specs.Operators.{IsCall as IsOperatorCall};
 ghost use Rattle.service_desks.specs.States.{GoesOn, IsOwed, State, earlier_in, store};

@@ -5,11 +5,15 @@ use Rattle.operator_pages.specs.declared.shown.Shown.{Shown}
 use Rattle.tallies.specs.Totals.{all_replies}
 use Rattle.operator_pages.specs.declared.spending.Place.TheVariants as place
 
+-- what a server says that was asked to end
+abbrev pub stopping_line : List ℕ
+stopping_line = codes "stopping\n"
+
 -- rule: Health of a server
 -- the number of the published edition, and that the history is unreachable, by the time since when it is; unless the server
 -- was asked to end
 abbrev pub health_string : ℕ → Option ℕ → Bool → List ℕ
-health_string edition lost true = codes "stopping\n"
+health_string edition lost true = stopping_line
 health_string edition None false = codes "edition " ++ decimal edition ++ codes "\n"
 health_string edition (Some since) false = codes "edition " ++ decimal edition ++ codes "\nhistory unreachable\n"
 

@@ -166,10 +166,10 @@ Remedy: `omaha review F` prints each of them with its reason, and `omaha review 
     (
         "status",
         "status N at ADDR
-Found in: the second line (--verbose, or a terminal) of `publish`, `raise`, `dump`, `status`, `stop` and `review --to`.
-Who listens at the address replied with the HTTP status N, and not as an operator's listener does to a script.
-Usual cause: The clients' address in place of the operator's (404), a script of over 262144 bytes (413), or a proxy.
-Remedy: Use the address that `serve --operator` was given, and no proxy before it.
+Found in: the output of `publish`, `raise`, `dump`, `status`, `stop` and `review --to`.
+Who listens at ADDR replied with the HTTP status N, and with no line that an operator's listener replies with.
+Usual cause: The clients' address in place of the operator's, another server, a proxy, or an omaha of another version.
+Remedy: Use the address of `serve --operator`, and no proxy before it. Of 500: look at the server's standard error.
 ",
     ),
     (

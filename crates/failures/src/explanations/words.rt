@@ -15,8 +15,8 @@ Remedy: `omaha once --help` says in which order the edits of a profile count; th
         "file F
 Found in: a path of the command line.
 The file can't be read, is no regular file, or has more than 256 MiB; `omaha describe` says what is wrong with it. Of a
-script of `check`, `review` or `publish --check`: it may also have more than 262144 bytes. Of `--log F`: the file can't
-be opened for writing. Of `--packages F`: there is no such folder.
+script: it may also have more than 262144 bytes. Of `--log F`: the file can't be opened for writing. Of `--packages F`:
+there is no such folder.
 Usual cause: A misspelled path, missing permission, a folder, a pipe, or a script that is too long.
 Remedy: Try `head F`; of a log, `touch F`; of packages, `ls F`. Divide a script that is too long.
 ",
@@ -100,7 +100,7 @@ Remedy: Copy the package, or write into the profile what `omaha describe FILE` p
         "read",
         "read
 Found in: standard input: the request of `once`, or the script of `publish -`.
-Standard input failed, or has more than 262144 bytes; of `publish -` without --check, more than 256 MiB.
+Standard input failed, or has more than 262144 bytes.
 Usual cause: A closed terminal, or a file that is no request or script.
 Remedy: Give the request or the script by `< FILE` or a pipe.
 ",
