@@ -45,8 +45,6 @@ server's reply:
   `F3 BadEntry edit[0].on`         the script is invalid, with the location
   `missing mini-4.0.bin`           the server looks for packages, and hasn't this one
   `size mini-4.0.bin 12 13`        its file has 13 bytes, and the script says 12
-  nothing                          out of memory, or the server can't keep the script: see its
-                                   standard error
 `omaha explain C11` explains a code. Split a script of more than 262144 bytes.
 
 With --check it publishes nothing. It asks the server for its edition and its dump, and prints
@@ -60,10 +58,13 @@ With --packages it first compares each package that the script adds with its fil
 differ, it prints a line for each, as `omaha check --packages` does, and publishes nothing.
 
 If the command fails, it prints one line on standard error.
-  omaha: file F       F can't be read; with --check, or has more than 262144 bytes
-  omaha: read         standard input failed; with --check, or has more than 262144 bytes
+  omaha: file F       F can't be read, or has more than 262144 bytes
+  omaha: read         standard input failed, or has more than 262144 bytes
   omaha: packages N   N packages differ from their files in DIR
   omaha: net ADDR     the server can't be reached at ADDR in time, or its reply isn't whole
+  omaha: status N at ADDR: REASON
+                      ADDR isn't the operator's address of an omaha server; or, with 500, the
+                      server has no memory or can't keep the script: see its standard error
   omaha: write        standard output failed
   omaha: memory       out of memory
 --timeout can't end the look-up of a host's name, nor the wait for a socket at PATH to accept.
@@ -95,13 +96,14 @@ budget again. To leave it only the rest, stop the server, change `budget` in the
   `refused B3 Lower 510`       the mirror has a budget of 510 bytes, which is above the new one
   `bad raise`                  NAME is empty or has a space, or BUDGET is no decimal number
                                without leading zeros
-  nothing                      out of memory, or the server can't keep the raise: see its
-                               standard error
 `omaha explain B3` explains a code, and `omaha status` prints what each mirror granted. Without
 --history put the budget into the profile, too.
 
 If the command fails, it prints one line on standard error.
   omaha: net ADDR   the server can't be reached at ADDR in time, or its reply isn't whole
+  omaha: status N at ADDR: REASON
+                    ADDR isn't the operator's address of an omaha server; or, with 500, the
+                    server has no memory or can't keep the raise: see its standard error
   omaha: write      standard output failed
   omaha: memory     out of memory
 --timeout can't end the look-up of a host's name, nor the wait for a socket at PATH to accept.
@@ -125,6 +127,9 @@ dump is newer than this number, and the script for it is stale.
 
 If the command fails, it prints one line on standard error.
   omaha: net ADDR   the server can't be reached at ADDR in time, or its reply isn't whole
+  omaha: status N at ADDR: REASON
+                    ADDR isn't the operator's address of an omaha server; or, with 500, the
+                    server has no memory
   omaha: write      standard output failed
   omaha: memory     out of memory
 --timeout can't end the look-up of a host's name, nor the wait for a socket at PATH to accept.
@@ -147,6 +152,9 @@ next one is asked: raise its budget with `omaha raise`.
 
 If the command fails, it prints one line on standard error.
   omaha: net ADDR   the server can't be reached at ADDR in time, or its reply isn't whole
+  omaha: status N at ADDR: REASON
+                    ADDR isn't the operator's address of an omaha server; or, with 500, the
+                    server has no memory
   omaha: write      standard output failed
   omaha: memory     out of memory
 --timeout can't end the look-up of a host's name, nor the wait for a socket at PATH to accept.

@@ -32,6 +32,8 @@ what it sends then is cut off, and its totals aren't printed. What was published
 
 If the command fails, it prints one line on standard error.
   omaha: net ADDR        the server can't be reached at ADDR in time, or its reply isn't whole
+  omaha: status N at ADDR: REASON
+                         ADDR isn't the operator's address of an omaha server
   omaha: stopping ADDR   the server hasn't finished in time
   omaha: write           standard output failed
   omaha: memory          out of memory
