@@ -1,9 +1,9 @@
 # make demo          prints requests of examples/ and their replies, serves, publishes and walks, by the
 #                    program built without a proof, or by the one of make install
 # make test          the gate: the rules' marks, the words to avoid, the functions and clauses that the claims name, the
-#                    public functions that nobody calls, the list of crates, the pictures, every proof from nothing,
-#                    mutants, tests and the program, and then the rows of tests/rows, the cases of tests/corpus, replies
-#                    on random catalogues and a few idle connections with the built program
+#                    public functions that nobody calls, the list of crates, the version, the pictures, every proof
+#                    from nothing, mutants, tests and the program, and then the rows of tests/rows, the cases of
+#                    tests/corpus, replies on random catalogues and a few idle connections with the built program
 # make mutants CRATE..  tries the mutants that the gate doesn't, of these crates or of all; the prover
 #                    must reject each
 # make commands      runs the commands on the profiles of examples/, and verifies each track's
@@ -48,6 +48,7 @@ test:
 	tests/claims.py
 	tests/callers.py
 	tests/crates.py
+	tests/version.py
 	tests/edits.py
 	docs/pictures/draw.py --check
 	packaging/build.py --gate

@@ -31,7 +31,7 @@ use clap::{ArgMatches, Error};
 use std::alloc::{AllocError, Global};
 
 /// The version of the program.
-pub const VERSION: &str = "0.2.0";
+pub const VERSION: &str = "0.3.0";
 
 const OMAHA: &str = "Replies to Omaha 3.1 update checks from a catalogue of releases.";
 

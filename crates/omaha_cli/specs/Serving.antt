@@ -1,8 +1,9 @@
 -- What the command `serve` does; this project's profile.
-use Rattle.std.specs.Prelude.{◌≡◌, ◌⊎◌, ℕ, Bool, true, false, codes, max, min, List, Option, None, Some, Result, Ok, Err, IfErr, IfOk}
+use Rattle.std.specs.Prelude.{◌≡◌, ◌⊎◌, ℕ, Bool, true, false, max, min, List, Option, None, Some, Result, Ok, Err, IfErr, IfOk}
 use Rattle.std.specs.Option.{is_some}
 use Rattle.streams.specs.Streams.{Known}
 use Rattle.omaha_arguments.specs.declared.command.Serve.{Serve}
+use Rattle.omaha_arguments.specs.declared.command_line.TheConstants.{VERSION}
 use Rattle.etcd_records.specs.Paths.{is_etcd_path}
 use Rattle.systems.specs.Edges.{Edges}
 use Rattle.omaha_server.specs.Checks.{IsStockedFor}
@@ -86,7 +87,7 @@ pub record IsPlaceOf (serve : Serve) (verbose : Bool) (place : Place) : Type 0 w
   pub pinned_tables : place.pinned_tables ≡ serve.pinned_tables
   pub packages_must_exist : place.packages_must_exist ≡ serve.packages_must_exist
   pub named : place.named ≡ served_name verbose serve.profile serve.history
-  pub version : place.version ≡ codes "0.2.0"
+  pub version : place.version ≡ VERSION.now
 
 -- what a server began with was served at a place to its end, or to an error; what is kept begins with its records. What
 -- was sent to the log for each port is the lines of its replies; and after what was there, the standard error has them, if
