@@ -8,9 +8,9 @@ abbrev pub note_line : List ℕ → List ℕ
 note_line said = codes "omaha: " ++ said ++ codes "\n"
 
 -- rule: Download that fails
--- a package of which nothing was reported yet, by those of which was
+-- a report that wasn't made yet, by those that were
 abbrev pub IsUnreported : List (List ℕ) → List ℕ → Type 0
-IsUnreported reported name = All (λ (each : List ℕ). each ≢ name) reported
+IsUnreported reported report = All (λ (each : List ℕ). each ≢ report) reported
 
 -- what is served, and at which address
 unfoldable pub served_string : List ℕ → ℕ → List ℕ → List ℕ

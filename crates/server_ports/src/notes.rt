@@ -11,7 +11,7 @@ use std::{fmt, str};
 use streams::Shown;
 use values::Text;
 
-// The most packages of an edition whose failed downloads are reported.
+// The most reports of an edition on failed downloads.
 const MAX_REPORTED: usize = 256;
 
 /// The lines that a server says of itself. A lock holds them, which no whole reply waits for.
@@ -19,7 +19,7 @@ pub struct Notes {
     alloc: Global,
     // where the lines go, if there is somebody who asked for them
     sender: Option<LineSender>,
-    // the packages of the edition whose failed downloads were reported
+    // what was reported of failed downloads in the edition: a reason, and the name of its package
     reported: Vec<Text>,
 }
 
@@ -41,12 +41,12 @@ fn line_of(alloc: Global, said: &str) -> Result<String, AllocError>
     format!(in alloc; "omaha: {said}\n")
 }
 
-// Whether a name is among those that were reported.
-fn is_reported(reported: &[Text], name: &str) -> bool
-    ensures { IsFalse result → IsUnreported reported.now name.now }
+// Whether a report is among those that were made.
+fn is_reported(reported: &[Text], report: &str) -> bool
+    ensures { IsFalse result → IsUnreported reported.now report.now }
 {
     for each in reported {
-        if each.as_str() == name {
+        if each.as_str() == report {
             return true;
         }
     }
@@ -79,21 +79,21 @@ impl Notes {
     }
 
     // rule: Download that fails
-    /// Notes a package whose download failed; whether it is to be reported: for the first time in this edition.
-    pub(crate) fn is_new(&mut self, name: &str) -> bool
-        ensures unreported { IsTrue result → IsUnreported self.old.reported.items name.now }
-        ensures noted { IsTrue result → self.new.reported.items ≡ self.old.reported.items ++ (name.now ∷ []) }
+    /// Notes why the download of a package failed; whether that is to be reported: for the first time in this edition.
+    pub(crate) fn is_new(&mut self, report: &str) -> bool
+        ensures unreported { IsTrue result → IsUnreported self.old.reported.items report.now }
+        ensures noted { IsTrue result → self.new.reported.items ≡ self.old.reported.items ++ (report.now ∷ []) }
     {
-        if self.reported.len() >= MAX_REPORTED || is_reported(&self.reported, name) {
+        if self.reported.len() >= MAX_REPORTED || is_reported(&self.reported, report) {
             return false;
         }
-        match Text::copy_of(self.alloc, name) {
-            Ok(name) => self.reported.push(name).is_ok(),
+        match Text::copy_of(self.alloc, report) {
+            Ok(report) => self.reported.push(report).is_ok(),
             Err(_) => false,
         }
     }
 
-    /// Begins an edition, of whose packages none was reported.
+    /// Begins an edition, of whose packages nothing was reported.
     pub fn begin_edition(&mut self) {
         self.reported.clear();
     }

@@ -6,7 +6,7 @@ use access_logs::{CutReply, LastReply};
 use http_ports::{Port, WatchEach};
 use http_wire::{package_name, path_of};
 use package_files::Mismatch;
-use std::alloc::AllocError;
+use std::alloc::{AllocError, Global};
 use std::marker::PhantomData;
 use std::net::IpAddr;
 use std::str;
@@ -51,6 +51,16 @@ fn mismatch_of(declared: u64, found: Option<u64>) -> Mismatch {
     }
 }
 
+// What is reported once in an edition: the kind of a mismatch, and the name of its package.
+fn report_of(alloc: Global, name: &str, mismatch: &Mismatch) -> Result<String, AllocError> {
+    let kind = match mismatch {
+        Mismatch::Missing => "missing",
+        Mismatch::Size { .. } => "size",
+        _ => "sha256",
+    };
+    format!(in alloc; "{kind} {name}")
+}
+
 // Says that downloads of a package fail, and why.
 fn note_failed<S: System<P>, R: Wait + AllocGlobal, P: Port>(
     setup: &Setup<'_, S, R>,
@@ -60,13 +70,14 @@ fn note_failed<S: System<P>, R: Wait + AllocGlobal, P: Port>(
     let Ok(shown) = str::from_utf8(name) else {
         return Ok(());
     };
-    if !setup.notes.lock(setup.rt).is_new(shown) {
-        return Ok(());
-    }
     let found = setup
         .system
         .package_size(setup.place.packages.as_str(), name);
     let mismatch = mismatch_of(declared, found);
+    let report = report_of(setup.rt.alloc(), shown, &mismatch)?;
+    if !setup.notes.lock(setup.rt).is_new(report.as_str()) {
+        return Ok(());
+    }
     let said = format!(in setup.rt.alloc(); "failed download of {shown}: {mismatch}")?;
     note(setup, said.as_str());
     Ok(())

@@ -7,8 +7,8 @@ pub loop-each-preserved : goal.loop-each-preserved
 loop-each-preserved c =
     let names = c.args.reported.now in
     let index = c.loop-each.each-index in
-    let IsOther : List ℕ → Type 0 = λ each. each ≢ c.args.name.now in
-    let other : c.each-item.result ≢ c.args.name.now = search rules in
+    let IsOther : List ℕ → Type 0 = λ each. each ≢ c.args.report.now in
+    let other : c.each-item.result ≢ c.args.report.now = search rules in
     let one = All-cons IsOther (get_or names index c.each-item.result) [] (subst IsOther c.each-item.is other) (All-nil IsOther) in
     subst (All IsOther) (sym (take_more names index c.each-item.result c.loop-each-test.true))
     (All-append IsOther (take index names) (get_or names index c.each-item.result ∷ []) c.loop-each.invariant one)

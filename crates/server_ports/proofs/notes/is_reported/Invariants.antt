@@ -1,7 +1,7 @@
--- None of the names so far is this one.
+-- None of the reports so far is this one.
 use Rattle.std.proofs.Common.{take}
 use Rattle.server_ports.specs.Notes.{IsUnreported}
 use Rattle.server_ports.proofs.notes.is_reported.Given as goal
 
 abbrev pub invariant-loop-each : goal.invariant-loop-each
-invariant-loop-each l = IsUnreported (take l.each-index l.reported) l.name
+invariant-loop-each l = IsUnreported (take l.each-index l.reported) l.report
