@@ -77,8 +77,7 @@ IsFound files sights command (failure.File path) said = IsFileAdvice sights comm
 IsFound files sights command (failure.Walk fault) said = IsWalkAdvice sights fault (server_of command) said
 IsFound files sights command (failure.Packages count) said = IsFolderAdvice sights (packages_path command) said
 IsFound files sights command (failure.History path fault) said = IsHistoryAdvice sights command path fault said
-IsFound files sights command (failure.Declined reply) said =
-    IsReplySaid files command reply.status reply.body.items said
+IsFound files sights command (failure.Declined reply) said = IsReplySaid files command reply.body.items said
 IsFound files sights command (failure.Code code) said = said ≡ codes "omaha explain lists all codes"
 IsFound files sights command failure.NoPlace said = said ≡ codes "see omaha explain place"
 IsFound files sights command other said = ⊥

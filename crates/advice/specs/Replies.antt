@@ -1,10 +1,9 @@
 -- What is said of a server's reply with another status than 200; this project's profile.
-use Rattle.std.specs.Prelude.{◌≡◌, ◌⊎◌, ℕ, ◌==◌, Bool, if◌then◌else◌, List, [], ◌∷◌, ◌++◌, bytes_eq, codes, decimal, Option, Some, None, option_map}
+use Rattle.std.specs.Prelude.{◌≡◌, ◌⊎◌, ℕ, ◌==◌, Bool, if◌then◌else◌, List, [], ◌∷◌, ◌++◌, bytes_eq, codes, Option, Some, None, option_map}
 use Rattle.std.specs.List.{after_first, before_first}
 use Rattle.std.specs.Map.{lookup}
-use Rattle.std.specs.Option.{is_some}
+use Rattle.std.specs.Option.{is_some, option_or}
 use Rattle.std.specs.Str.{is_utf8}
-use Rattle.streams.specs.Strings.{shown_string}
 use Rattle.streams.specs.Streams.{Known}
 use Rattle.catalogue.specs.declared.fault.Fault.{Fault}
 use Rattle.failures.specs.Explanations.{explanation_of}
@@ -16,7 +15,7 @@ use Rattle.profile_toml.specs.declared.fault.ProfileFault.TheVariants as fault
 use Rattle.advice.specs.Documents.{IsFileSaid}
 use Rattle.advice.specs.Edits.{fault_named}
 use Rattle.advice.specs.Looks.{look_string}
-use Rattle.advice.specs.Sources.{script_path, server_of}
+use Rattle.advice.specs.Sources.{script_path}
 use Rattle.advice.specs.Tables.{is_space}
 use Rattle.advice.specs.declared.documents.Notice.{Notice}
 use Rattle.advice.specs.declared.documents.Notice.TheVariants as notice
@@ -102,38 +101,9 @@ see_string word = codes "see omaha explain " ++ word
 abbrev pub explained : List ℕ → Option (List ℕ)
 explained line = if is_some (explanation_of (first_word line)) then Some (see_string (first_word line)) else None
 
--- what a status says of an operator's listener
-abbrev pub status_words : ℕ → List ℕ
-status_words status =
-    if status == 400 then codes "is that an omaha server of this version?"
-    else if status == 403 then codes "the request has a browser's field: is a proxy before the listener?"
-    else if status == 404 then codes "is that the operator's address? clients have another one"
-    else if status == 405 then codes "is that the operator's address? clients have another one"
-    else if status == 413 then codes "a script has at most 262144 bytes: publish its edits by several scripts"
-    else if status == 500 then codes "the server has no memory, or can't keep the script: look at its log"
-    else if status == 502 then codes "a proxy doesn't reach the server"
-    else if status == 503 then codes "a proxy doesn't reach the server"
-    else if status == 504 then codes "a proxy doesn't reach the server"
-    else codes "is that the operator's listener of an omaha server?"
-
--- rule: Advice on a status
--- a status with the address of the server
-abbrev pub status_said : List ℕ → ℕ → List ℕ
-status_said address status =
-    codes "status " ++ (decimal status ++ (codes " at " ++ (shown_string address ++ (codes ": " ++ (status_words status
-    ++ codes " (omaha explain status)")))))
-
--- what is said of a line: of a raise, where it is explained, or of the status
-abbrev pub or_status : Option (List ℕ) → List ℕ → ℕ → List ℕ
-or_status None address status = status_said address status
-or_status (Some said) address status = said
-
-abbrev pub or_explained : Option (List ℕ) → Command → List ℕ → ℕ → List ℕ
-or_explained None command line status = or_status (explained line) (server_of command) status
-or_explained (Some said) command line status = said
-
-abbrev pub line_said : Command → ℕ → List ℕ → List ℕ
-line_said command status line = or_explained (raise_said (word_of line) command) command line status
+-- what is said of a line: of a raise, or where it is explained
+abbrev pub line_said : Command → List ℕ → Option (List ℕ)
+line_said command line = option_or (raise_said (word_of line) command) (explained line)
 
 -- what is said of the file at a path that may be missing
 abbrev pub IsPathSaid : (List ℕ → Known) → Option (List ℕ) → Kind → Notice → List ℕ → Type 0
@@ -141,13 +111,12 @@ IsPathSaid files None of notice said = ⊥
 IsPathSaid files (Some path) of notice said = IsFileSaid files path of notice said
 
 -- by what the line says: of the script's file, if it can be read; else of the line
-abbrev pub IsLineSaid : (List ℕ → Known) → Command → ℕ → List ℕ → Option Notice → List ℕ → Type 0
-IsLineSaid files command status line (Some notice) said =
-    IsPathSaid files (script_path command) kind.Script notice said ⊎ (said ≡ line_said command status line)
-IsLineSaid files command status line None said = said ≡ line_said command status line
+abbrev pub IsLineSaid : (List ℕ → Known) → Command → List ℕ → Option Notice → List ℕ → Type 0
+IsLineSaid files command line (Some notice) said =
+    IsPathSaid files (script_path command) kind.Script notice said ⊎ (line_said command line ≡ Some said)
+IsLineSaid files command line None said = line_said command line ≡ Some said
 
 -- rule: Advice on a reply
 -- what is said of a reply with another status than 200
-abbrev pub IsReplySaid : (List ℕ → Known) → Command → ℕ → List ℕ → List ℕ → Type 0
-IsReplySaid files command status body said =
-    IsLineSaid files command status (line_in body) (notice_in (line_in body)) said
+abbrev pub IsReplySaid : (List ℕ → Known) → Command → List ℕ → List ℕ → Type 0
+IsReplySaid files command body said = IsLineSaid files command (line_in body) (notice_in (line_in body)) said

@@ -42,19 +42,8 @@ script_path (command.Review asked) = asked.script
 script_path (command.Publish asked) = unless_input asked.script
 script_path other = None
 
--- the server of a source
-abbrev pub server_in : Source → List ℕ
-server_in (source.Profile path) = []
-server_in (source.Server to) = to
-
--- the address of a command's server
+-- the address of a walk's server
 abbrev pub server_of : Command → List ℕ
-server_of (command.Review asked) = server_in asked.source
-server_of (command.Publish asked) = asked.to
-server_of (command.Raise asked) = asked.to
-server_of (command.Dump asked) = asked.to
-server_of (command.Status asked) = asked.to
-server_of (command.Stop asked) = asked.to
 server_of (command.Walk asked) = asked.to
 server_of other = []
 

@@ -194,9 +194,7 @@ fn find<R: Disk + Looks + AllocGlobal>(
         Failure::Walk(fault) => walk_advice(rt, alloc, command, *fault),
         Failure::Packages(_) => folder_advice(rt, alloc, packages_path(command)),
         Failure::History(path, fault) => history_advice(rt, alloc, command, path.as_str(), fault),
-        Failure::Declined(reply) => {
-            reply_advice(rt, alloc, command, reply.status, reply.body.as_slice())
-        }
+        Failure::Declined(reply) => reply_advice(rt, alloc, command, reply.body.as_slice()),
         Failure::Code(_) => fixed(alloc, "omaha explain lists all codes"),
         Failure::NoPlace => fixed(alloc, "see omaha explain place"),
         _ => None,

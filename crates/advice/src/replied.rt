@@ -5,16 +5,15 @@ ghost use Rattle.std.specs.Map.{lookup};
 ghost use Rattle.std.specs.List.{before_first};
 ghost use Rattle.advice.specs.Documents.{notice_of};
 ghost use Rattle.advice.specs.Looks.{look_string};
-ghost use Rattle.advice.specs.Replies.{IsLineSaid, IsPathSaid, IsReplySaid, after_word, edit_notice, explained, first_word, is_feed, line_in, line_said, or_explained, or_status, raise_remedies, raise_said, raise_value, script_fault, see_string, stale_notice, status_said, status_words, notice_by, notice_in, word_of};
+ghost use Rattle.advice.specs.Replies.{IsLineSaid, IsPathSaid, IsReplySaid, after_word, edit_notice, explained, first_word, is_feed, line_in, line_said, raise_remedies, raise_said, raise_value, script_fault, see_string, stale_notice, notice_by, notice_in, word_of};
 ghost use Rattle.advice.specs.Edits.{fault_named};
-ghost use Rattle.advice.specs.Sources.{server_of};
 ghost use Rattle.advice.specs.declared.documents.Notice.TheVariants as notice;
 ghost use Rattle.omaha_arguments.specs.Options.{number_of};
 ghost use Rattle.profile_toml.specs.declared.fault.ProfileFault.TheVariants as fault;
 
 use crate::documents::{Notice, Trouble, as_string, file_said};
 use crate::edits::fault_named;
-use crate::sources::{script_path, server_of};
+use crate::sources::script_path;
 use crate::tables::Kind;
 use catalogue::{Fault, Refused};
 use failures::explain;
@@ -196,60 +195,23 @@ pub(crate) fn explained(alloc: Global, line: &str) -> Result<Option<String>, All
     }
 }
 
-fn status_words(status: u16) -> &'static str
-    ensures { result.now ≡ status_words status }
-{
-    match status {
-        400 => "is that an omaha server of this version?",
-        403 => "the request has a browser's field: is a proxy before the listener?",
-        404 => "is that the operator's address? clients have another one",
-        405 => "is that the operator's address? clients have another one",
-        413 => "a script has at most 262144 bytes: publish its edits by several scripts",
-        500 => "the server has no memory, or can't keep the script: look at its log",
-        502 => "a proxy doesn't reach the server",
-        503 => "a proxy doesn't reach the server",
-        504 => "a proxy doesn't reach the server",
-        _ => "is that the operator's listener of an omaha server?",
-    }
-}
-
-// rule: Advice on a status
-fn status_said(alloc: Global, address: &str, status: u16) -> Result<String, AllocError>
-    ensures { IfOk result (λ said. string_bytes said ≡ status_said address.now status) }
-{
-    let address = Shown { string: address };
-    let words = status_words(status);
-    format!(in alloc; "status {status} at {address}: {words} (omaha explain status)")
-}
-
-fn explained_or_status(
-    alloc: Global,
-    command: &Command,
-    status: u16,
-    line: &str,
-) -> Result<String, AllocError>
-    ensures { IfOk result (λ said. string_bytes said
-        ≡ or_status (explained line.now) (server_of command.now) status) }
-{
-    match explained(alloc, line) {
-        Ok(Some(said)) => Ok(said),
-        Ok(None) => status_said(alloc, server_of(command), status),
-        Err(error) => Err(error),
-    }
-}
-
-fn line_said(
-    alloc: Global,
-    command: &Command,
-    status: u16,
-    line: &str,
-) -> Result<String, AllocError>
-    ensures { IfOk result (λ said. string_bytes said ≡ line_said command.now status line.now) }
+fn line_said(alloc: Global, command: &Command, line: &str) -> Result<Option<String>, AllocError>
+    ensures { IfOk result (λ said. option_map string_bytes said ≡ line_said command.now line.now) }
 {
     match raise_said(alloc, word_of(line), command) {
-        Ok(Some(said)) => Ok(said),
-        Ok(None) => explained_or_status(alloc, command, status, line),
+        Ok(Some(said)) => Ok(Some(said)),
+        Ok(None) => explained(alloc, line),
         Err(error) => Err(error),
+    }
+}
+
+// The same, or nothing without memory.
+fn line_advice(alloc: Global, command: &Command, line: &str) -> Option<String>
+    ensures { IfSome result (λ said. line_said command.now line.now ≡ Some (string_bytes said)) }
+{
+    match line_said(alloc, command, line) {
+        Ok(said) => said,
+        Err(_) => None,
     }
 }
 
@@ -274,11 +236,10 @@ fn notice_said<R: Disk>(
     rt: &R,
     alloc: Global,
     command: &Command,
-    status: u16,
     line: &str,
     notice: &Notice,
 ) -> Option<String>
-    ensures { IfSome result (λ said. IsLineSaid (R.file_at rt.now) command.now status line.now (Some notice.now) (string_bytes said)) }
+    ensures { IfSome result (λ said. IsLineSaid (R.file_at rt.now) command.now line.now (Some notice.now) (string_bytes said)) }
 {
     match path_said(
         rt,
@@ -288,27 +249,26 @@ fn notice_said<R: Disk>(
         notice.trouble(),
     ) {
         Some(said) => Some(said),
-        None => line_said(alloc, command, status, line).ok(),
+        None => line_advice(alloc, command, line),
     }
 }
 
 // rule: Advice on a reply
-/// Says what is wrong by a server's reply to a command, with another status than 200; nothing without memory.
+/// Says what is wrong by the line of a server's reply to a command, with another status than 200; nothing without memory.
 ///
 /// A line of a script's fault, of a rejected edit or of another edition is looked up in the script's file.
 pub fn reply_advice<R: Disk>(
     rt: &R,
     alloc: Global,
     command: &Command,
-    status: u16,
     body: &[u8],
 ) -> Option<String>
-    ensures { IfSome result (λ said. IsReplySaid (R.file_at rt.now) command.now status body.now (string_bytes said)) }
+    ensures { IfSome result (λ said. IsReplySaid (R.file_at rt.now) command.now body.now (string_bytes said)) }
 {
     let line = line_in(body);
     match notice_in(alloc, line) {
-        Ok(Some(notice)) => notice_said(rt, alloc, command, status, line, &notice),
-        Ok(None) => line_said(alloc, command, status, line).ok(),
+        Ok(Some(notice)) => notice_said(rt, alloc, command, line, &notice),
+        Ok(None) => line_advice(alloc, command, line),
         Err(_) => None,
     }
 }

@@ -1,7 +1,7 @@
 //! The files and addresses that commands name.
 
 ghost use Rattle.std.specs.Prelude.{◌≡◌, option_map};
-ghost use Rattle.advice.specs.Sources.{aim_of, file_aim, history_aim, is_given_twice, is_named, packages_path, profile_in, profile_path, script_in, script_path, serve_aim, server_in, server_of, unless_input};
+ghost use Rattle.advice.specs.Sources.{aim_of, file_aim, history_aim, is_given_twice, is_named, packages_path, profile_in, profile_path, script_in, script_path, serve_aim, server_of, unless_input};
 
 use crate::looks::Aim;
 use omaha_arguments::{Command, Question, Serve, Source};
@@ -69,26 +69,11 @@ pub(crate) fn script_path(command: &Command) -> Option<&str>
     }
 }
 
-fn server_in(source: &Source) -> &str
-    ensures { result.now ≡ server_in source.now }
-{
-    match source {
-        Source::Profile(_) => "",
-        Source::Server(to) => to.as_str(),
-    }
-}
-
-/// The address of a command's server, or nothing.
+/// The address of a walk's server, or nothing.
 pub(crate) fn server_of(command: &Command) -> &str
     ensures { result.now ≡ server_of command.now }
 {
     match command {
-        Command::Review(asked) => server_in(&asked.source),
-        Command::Publish(asked) => asked.to.as_str(),
-        Command::Raise(asked) => asked.to.as_str(),
-        Command::Dump(asked) => asked.to.as_str(),
-        Command::Status(asked) => asked.to.as_str(),
-        Command::Stop(asked) => asked.to.as_str(),
         Command::Walk(asked) => asked.to.as_str(),
         _ => "",
     }
