@@ -1,8 +1,5 @@
 use Rattle.std.proofs.Common.{ap, refl}
 use Rattle.tallies.specs.Totals.{all_replies}
-use Rattle.operator_pages.specs.Health.{reach_line}
-use Rattle.operator_pages.specs.Spending.{mirror_lines}
-use Rattle.operator_pages.specs.declared.spending.Place.TheVariants as place
 use Rattle.omaha_commands.specs.Forms.{is_read}
 use Rattle.omaha_commands.proofs.FormLemmas.{is_declining-fault, is_declining-lack, is_expected-edition, is_expected-followed, is_expected-none, is_expected-raised, is_status-string}
 use Rattle.omaha_commands.proofs.laws.replies.Goals as goal
