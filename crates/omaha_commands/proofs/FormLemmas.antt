@@ -1,12 +1,12 @@
 -- What is read of a reply's lines.
-use Rattle.std.proofs.Common.{not, ◌||◌, ◌&&◌, ◌≡◌, ◌≢◌, ℕ, ◌+◌, ◌-◌, ◌^◌, ◌<◌, ◌≤◌, Bool, true, false, cond, List, [], ◌∷◌, ◌++◌, append_assoc, length, length-append, get_or, take, drop, Option, Some, None, unwrap_or, codes, decimal, refl, sym, ap, ◌∙◌, subst, arith}
-use Rattle.std.specs.List.{starts_with, list_all, after_first, before_first, position_or_len}
+use Rattle.std.proofs.Common.{not, ◌||◌, ◌&&◌, ◌≡◌, ◌≢◌, ℕ, ◌+◌, ◌-◌, ◌^◌, ◌<◌, Bool, true, false, cond, List, [], ◌∷◌, ◌++◌, append_assoc, length, length-append, get_or, drop, Option, Some, None, unwrap_or, codes, decimal, refl, sym, ap, ◌∙◌, arith}
+use Rattle.std.specs.List.{list_all, position_or_len}
 use Rattle.std.specs.Str.{all_ascii_digits, bytes_eq, is_utf8}
 use Rattle.std.specs.Str.Parse.{digits_value}
 use Rattle.std.proofs.lemmas.Bool.{false_from_ne_true, false≢true, and_from, and_parts, eqb-true, leb-true, not-true}
 use Rattle.std.proofs.lemmas.Bool.Decides.{nat_tests}
 use Rattle.std.proofs.lemmas.Fmt.{decimal_nonempty, digits_decimal, digits_value-decimal}
-use Rattle.std.proofs.lemmas.List.{drop_all, drop_at, get_or_default, length-drop, take_at}
+use Rattle.std.proofs.lemmas.List.{drop_at, get_or_default, length-drop, take_at}
 use Rattle.std.proofs.lemmas.List.Sums.{list_all-from_AllPass, passes_at_first, split_at_first}
 use Rattle.std.proofs.lemmas.Slice.Eq.{bytes_eq-Decides}
 use Rattle.std.proofs.lemmas.Str.Parse.{IsNumeralModel, not_in_digits, numerals_by_value, tells_all_ascii_digits}

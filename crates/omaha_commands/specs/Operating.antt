@@ -12,7 +12,6 @@ use Rattle.omaha_commands.specs.ScriptFiles.{max_script}
 use Rattle.omaha_commands.specs.ShownReplies.{printed_reply}
 use Rattle.omaha_commands.specs.declared.forms.Meaning.{Meaning}
 use Rattle.omaha_commands.specs.declared.forms.Meaning.TheVariants as meaning
-use Rattle.profiles.specs.Streams.{Streams}
 use Rattle.failures.specs.declared.failure.Failure.{Failure}
 use Rattle.failures.specs.declared.failure.Failure.TheVariants as failure
 
