@@ -16,8 +16,9 @@ At the operator's address they are twice as many as it has places; those that ar
 fewer bytes that nobody reads. Three seconds later, and once the server rests, it replies to each of these within N seconds,
 1 by default: a publish, a `follow`, a page, `omaha publish` and at last a stop. Another publish comes as soon as the
 connections are open, and has a reply within four seconds. At the clients' address silent connections use all places, and
-those of other kinds leave some: an update check and a publish get a reply in time. A connection that makes room is closed.
-Of 128 operators who send a whole message at once each gets a reply.
+those of other kinds leave some: an update check and a publish get a reply in time. There N/8 are `unread`, since of each the
+server hashes some MiB. A connection that makes room is closed. Of 128 operators who send a whole message at once each gets
+a reply.
 """
 
 import argparse
@@ -268,11 +269,12 @@ def operators_door(program, folder, kind, options):
 # rule: Room for one more
 def clients_door(program, folder, kind, options):
     """Clients and the operator come in beside connections at the clients' address."""
-    what, limit = f"{options.count} {kind} at the clients' address", options.seconds
-    places = options.count // 2 if kind == "silent" else 4 * options.count
+    count = options.count // 8 if kind == "unread" else options.count
+    what, limit = f"{count} {kind} at the clients' address", options.seconds
+    places = count // 2 if kind == "silent" else 4 * count
     server = Server(program, folder, places)
     message = get("/p/large.bin") if kind == "unread" else post(ASK, CHECK)
-    crowd = Crowd(kind, server.port, message, options.count)
+    crowd = Crowd(kind, server.port, message, count)
     time.sleep(3)
     server.rest()
     took = []
