@@ -1,6 +1,7 @@
 pub mod AskLemmas
 pub mod CommaLemmas
 pub mod HandleLemmas
+pub mod HeaderLemmas
 pub mod LawLemmas
 pub mod OpenLemmas
 pub mod PortLemmas

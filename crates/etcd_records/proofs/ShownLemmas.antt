@@ -5,7 +5,7 @@ use Rattle.std.proofs.Math.Seq.{get_or-append_seam}
 use Rattle.std.proofs.lemmas.List.{get_or_append_left}
 use Rattle.std.proofs.lemmas.List.Elements.{Contains-append_left, Contains-append_right}
 use Rattle.std.proofs.lemmas.Option.{get_or_from_slice_get, slice_get-get_or, slice_get_within}
-use Rattle.std.specs.Prelude.{IfOk, IfSome, if◌then◌else◌}
+use Rattle.std.specs.Prelude.{IfOk, IfSome, if◌then◌else◌, is_some}
 use Rattle.std.specs.List.{Contains}
 use Rattle.std.specs.Str.{bytes_eq}
 use Rattle.std.proofs.lemmas.Slice.Eq.{bytes_eq-Decides}
@@ -19,10 +19,13 @@ use Rattle.kept_records.specs.declared.fault.ReadFault.{ReadFault}
 use Rattle.kept_records.specs.declared.record.Record.{Record}
 use Rattle.etcd_records.specs.declared.exchange.Exchange.{Exchange}
 use Rattle.etcd_records.specs.Appending.{NextBy, ReadsBy, ReadsFound, append_result, held_result}
-use Rattle.etcd_records.specs.Asking.{Asks, Heard, replied, unreplied, no_memory, IsHeard, IsReplied}
+use Rattle.etcd_records.specs.Asking.{Asks, Heard, replied, unreplied, no_memory, IsHeard, IsReplied, seen_by}
 use Rattle.etcd_records.specs.Handles.{AreShown, IsShown, ShowsOf}
 use Rattle.etcd_records.specs.Keys.{encoded_key, value_of}
-use Rattle.etcd_records.specs.Replies.{found_in, held_in, is_created}
+use Rattle.etcd_records.specs.Headers.{trouble_in}
+use Rattle.etcd_records.specs.Replies.{counted, counted_in, found_in, held_in, is_created, reply_in}
+use Rattle.etcd_records.specs.declared.exchange.Outcome.{Outcome}
+use Rattle.etcd_records.specs.declared.headers.Header.{Header}
 use Rattle.etcd_records.specs.Requests.{range_path, range_request, txn_path, txn_request}
 
 -- what was shown stays shown
@@ -72,16 +75,29 @@ Contains-last : (old missed : List Exchange) (last : Exchange) → Contains (old
 Contains-last old missed last =
     Contains-append_right old (missed ++ last ∷ []) last (Contains-append_right missed (last ∷ []) last (0, omega arith, refl))
 
+-- a reply that counts is one of etcd
+counted_by : (seen : Option Header) (reply counts : Data) (test : Bool) → is_some (trouble_in seen reply) ≡ test
+    → (if test then None else Some reply) ≡ Some counts → Some reply ≡ Some counts
+counted_by seen reply counts true is same = cc
+counted_by seen reply counts false is same = same
+
+counted_some : (seen : Option Header) (read : Option Data) (reply : Data) → counted seen read ≡ Some reply → read ≡ Some reply
+counted_some seen None reply is = is
+counted_some seen (Some read) reply is = counted_by seen read reply (is_some (trouble_in seen read)) refl is
+
+pub counted_is : (seen : Option Header) (came : Outcome) (reply : Data) → counted_in seen came ≡ Some reply → reply_in came ≡ Some reply
+counted_is seen came reply is = counted_some seen (reply_in came) reply is
+
 -- the exchange that brought a reply shown what it says
-replied_shown : (most : ℕ) (prefix path body : List ℕ) (number : ℕ) (added : Record) (value : List ℕ) (old done : List Exchange) (reply : Data) (is_doubtful : Bool)
-    → (is : IsReplied most path body done reply is_doubtful)
+replied_shown : (most : ℕ) (seen : Option Header) (prefix path body : List ℕ) (number : ℕ) (added : Record) (value : List ℕ) (old done : List Exchange) (reply : Data) (is_doubtful : Bool)
+    → (is : IsReplied most seen path body done reply is_doubtful)
     → ShowsOf (encoded_key prefix number) value is.last reply → decode_of standard value ≡ Ok (value_of added)
     → IsShown (old ++ done) prefix number added
-replied_shown most prefix path body number added value old done reply is_doubtful is shows decodes = record {
+replied_shown most seen prefix path body number added value old done reply is_doubtful is shows decodes = record {
   exchange = is.last;
   value = value;
   done = subst (λ (all : List Exchange). Contains (old ++ all) is.last) (sym is.all) (Contains-last old is.missed is.last);
-  shows = (reply, is.reply_is, shows);
+  shows = (reply, counted_is seen is.last.outcome reply is.reply_is, shows);
   decodes = decodes;
 }
 
@@ -118,15 +134,15 @@ unreplied_is : (why : Cause) (is_doubtful : Bool)
 unreplied_is why true is = not_done _ is
 unreplied_is why false is = not_done _ is
 
-append_heard : (most : ℕ) (prefix : List ℕ) (number : ℕ) (added : Record) (value : List ℕ) (old done : List Exchange) (heard : Heard)
-    → IsHeard most txn_path (txn_request (encoded_key prefix number) value) done heard
+append_heard : (most : ℕ) (seen : Option Header) (prefix : List ℕ) (number : ℕ) (added : Record) (value : List ℕ) (old done : List Exchange) (heard : Heard)
+    → IsHeard most seen txn_path (txn_request (encoded_key prefix number) value) done heard
     → IsDone (append_result value heard) → decode_of standard value ≡ Ok (value_of added)
     → IsShown (old ++ done) prefix number added
-append_heard most prefix number added value old done (replied reply is_doubtful) is result decodes =
-    replied_shown most prefix txn_path (txn_request (encoded_key prefix number) value) number added value old done reply is_doubtful is
+append_heard most seen prefix number added value old done (replied reply is_doubtful) is result decodes =
+    replied_shown most seen prefix txn_path (txn_request (encoded_key prefix number) value) number added value old done reply is_doubtful is
     (created_shown (encoded_key prefix number) value is_doubtful is.last reply (is_created reply) is.asks refl result) decodes
-append_heard most prefix number added value old done (unreplied why is_doubtful) is result decodes = absurd (unreplied_is why is_doubtful result)
-append_heard most prefix number added value old done no_memory is result decodes = absurd (not_done _ result)
+append_heard most seen prefix number added value old done (unreplied why is_doubtful) is result decodes = absurd (unreplied_is why is_doubtful result)
+append_heard most seen prefix number added value old done no_memory is result decodes = absurd (not_done _ result)
 
 -- the same by what it is shown of
 IsShown-at : (exchanges : List Exchange) (prefix now : List ℕ) (kept after : List Record) (it : Record) → now ≡ prefix
@@ -137,19 +153,19 @@ IsShown-at exchanges prefix now kept after it same also shown =
     (subst (λ (all : List Record). IsShown exchanges prefix (length all + 1) it) (sym also) shown)
 
 -- a record that was appended was shown
-pub appended_shown : (most : ℕ) (prefix now body : List ℕ) (kept after : List Record) (added : Record) (value used : List ℕ) (old new done : List Exchange) (heard : Heard)
-    → IsHeard most txn_path body done heard → body ≡ txn_request (encoded_key prefix (length kept + 1)) value
+pub appended_shown : (most : ℕ) (seen : Option Header) (prefix now body : List ℕ) (kept after : List Record) (added : Record) (value used : List ℕ) (old new done : List Exchange) (heard : Heard)
+    → IsHeard most seen txn_path body done heard → body ≡ txn_request (encoded_key prefix (length kept + 1)) value
     → used ≡ value
     → Ok tt ≡ append_result used heard → decode_of standard value ≡ Ok (value_of added) → new ≡ old ++ done
     → now ≡ prefix → after ≡ kept
     → IsShown new now (length after + 1) added
-appended_shown most prefix now body kept after added value used old new done heard is asks own result decodes grown same also =
+appended_shown most seen prefix now body kept after added value used old new done heard is asks own result decodes grown same also =
     let done_by : Ok tt ≡ append_result value heard = subst (λ (it : List ℕ). IsDone (append_result it heard)) own result in
-    let asked : IsHeard most txn_path (txn_request (encoded_key prefix (length kept + 1)) value) done heard =
-    subst (λ (it : List ℕ). IsHeard most txn_path it done heard) asks is in
+    let asked : IsHeard most seen txn_path (txn_request (encoded_key prefix (length kept + 1)) value) done heard =
+    subst (λ (it : List ℕ). IsHeard most seen txn_path it done heard) asks is in
     IsShown-at new prefix now kept after added same also
     (subst (λ (all : List Exchange). IsShown all prefix (length kept + 1) added) (sym grown)
-    (append_heard most prefix (length kept + 1) added value old done heard asked done_by decodes))
+    (append_heard most seen prefix (length kept + 1) added value old done heard asked done_by decodes))
 
 not_read : (fault : ReadFault) (next : Record) → Ok (Some next) ≡ Err fault → ⊥
 not_read fault next is = cc
@@ -163,40 +179,41 @@ found_shown key next it reply None asks is reads = absurd (is_none reads)
     is_none same = cc
 found_shown key next it reply (Some value) asks is reads = (value, inl (asks, is), reads)
 
-read_heard : (most : ℕ) (prefix : List ℕ) (number : ℕ) (next : Record) (old done : List Exchange) (heard : Heard)
-    → IsHeard most range_path (range_request (encoded_key prefix number)) done heard → ReadsBy heard (Ok (Some next))
+read_heard : (most : ℕ) (seen : Option Header) (prefix : List ℕ) (number : ℕ) (next : Record) (old done : List Exchange) (heard : Heard)
+    → IsHeard most seen range_path (range_request (encoded_key prefix number)) done heard → ReadsBy heard (Ok (Some next))
     → IsShown (old ++ done) prefix number next
-read_heard most prefix number next old done (replied reply is_doubtful) is reads =
+read_heard most seen prefix number next old done (replied reply is_doubtful) is reads =
     let found = found_shown (encoded_key prefix number) next is.last reply (found_in reply) is.asks refl reads in
-    replied_shown most prefix range_path (range_request (encoded_key prefix number)) number next found.0 old done reply is_doubtful is found.1 found.2
-read_heard most prefix number next old done (unreplied why is_doubtful) is reads = absurd (not_read _ next reads)
-read_heard most prefix number next old done no_memory is reads = absurd (not_read _ next reads)
+    replied_shown most seen prefix range_path (range_request (encoded_key prefix number)) number next found.0 old done reply is_doubtful is found.1 found.2
+read_heard most seen prefix number next old done (unreplied why is_doubtful) is reads = absurd (not_read _ next reads)
+read_heard most seen prefix number next old done no_memory is reads = absurd (not_read _ next reads)
 
 -- a record that was read was shown
-pub read_shown : (most : ℕ) (prefix now body : List ℕ) (kept after : List Record) (result : Result (Option Record) ReadFault) (old new done : List Exchange) (heard : Heard)
-    → IsHeard most range_path body done heard → body ≡ range_request (encoded_key prefix (length kept + 1))
+pub read_shown : (most : ℕ) (seen : Option Header) (prefix now body : List ℕ) (kept after : List Record) (result : Result (Option Record) ReadFault) (old new done : List Exchange) (heard : Heard)
+    → IsHeard most seen range_path body done heard → body ≡ range_request (encoded_key prefix (length kept + 1))
     → ReadsBy heard result → new ≡ old ++ done → now ≡ prefix → after ≡ kept
     → IfOk result (λ found. IfSome found (IsShown new now (length after + 1)))
-read_shown most prefix now body kept after (Ok (Some next)) old new done heard is asks reads grown same also =
-    let asked : IsHeard most range_path (range_request (encoded_key prefix (length kept + 1))) done heard =
-    subst (λ (it : List ℕ). IsHeard most range_path it done heard) asks is in
+read_shown most seen prefix now body kept after (Ok (Some next)) old new done heard is asks reads grown same also =
+    let asked : IsHeard most seen range_path (range_request (encoded_key prefix (length kept + 1))) done heard =
+    subst (λ (it : List ℕ). IsHeard most seen range_path it done heard) asks is in
     IsShown-at new prefix now kept after next same also
     (subst (λ (all : List Exchange). IsShown all prefix (length kept + 1) next) (sym grown)
-    (read_heard most prefix (length kept + 1) next old done heard asked reads))
-read_shown most prefix now body kept after (Ok None) old new done heard is asks reads grown same also = tt
-read_shown most prefix now body kept after (Err fault) old new done heard is asks reads grown same also = tt
+    (read_heard most seen prefix (length kept + 1) next old done heard asked reads))
+read_shown most seen prefix now body kept after (Ok None) old new done heard is asks reads grown same also = tt
+read_shown most seen prefix now body kept after (Err fault) old new done heard is asks reads grown same also = tt
 
 -- a read that was posted, by what was heard
-pub read_by : (most : ℕ) (prefix body : List ℕ) (kept : List Record) (result : Result (Option Record) ReadFault) (old new done : List Exchange) (heard : Heard)
-    → IsHeard most range_path body done heard → body ≡ range_request (encoded_key prefix (length kept + 1))
-    → ReadsBy heard result → new ≡ old ++ done
-    → (x : List Exchange) × (new ≡ old ++ x) × NextBy most prefix kept x result
-read_by most prefix body kept result old new done heard is asks reads grown = (
+pub read_by : (most : ℕ) (seen after : Option Header) (prefix body : List ℕ) (kept : List Record) (result : Result (Option Record) ReadFault) (old new done : List Exchange) (heard : Heard)
+    → IsHeard most seen range_path body done heard → body ≡ range_request (encoded_key prefix (length kept + 1))
+    → ReadsBy heard result → new ≡ old ++ done → after ≡ seen_by seen heard
+    → (x : List Exchange) × (new ≡ old ++ x) × NextBy most seen after prefix kept x result
+read_by most seen after prefix body kept result old new done heard is asks reads grown sees = (
   done,
   grown,
   inr (inr (record {
     heard = heard;
-    is_heard = subst (λ (it : List ℕ). IsHeard most range_path it done heard) asks is;
+    seen_is = sees;
+    is_heard = subst (λ (it : List ℕ). IsHeard most seen range_path it done heard) asks is;
     reads = reads;
   })),
 )

@@ -1,5 +1,5 @@
 -- What is opened at a path of etcd.
-use Rattle.std.proofs.Common.{◌≡◌, ◌∙◌, ℕ, List, [], inl, inr, refl, length, ap, subst}
+use Rattle.std.proofs.Common.{◌≡◌, ◌∙◌, ℕ, List, [], None, inl, inr, refl, length, ap, subst}
 use Rattle.etcd_records.specs.Paths.{Parts, addresses_in}
 use Rattle.kept_records.specs.declared.fault.Cause.TheVariants.{Memory}
 use Rattle.kept_records.specs.declared.fault.OpenFault.{OpenFault}
@@ -30,7 +30,7 @@ opened_by parts limit handle addresses prefix attempts at below often has_prefix
 
 -- an open fails that runs out of memory before it asks
 pub no_memory : (most : ℕ) (prefix : List ℕ) → OpenFails most prefix (Failed Memory)
-no_memory most prefix = (read.Failed Memory, refl, [], [], inr (inl (refl, refl)))
+no_memory most prefix = (read.Failed Memory, refl, None, None, [], [], inr (inl ((refl, refl), refl)))
 
 -- an open of a path with these parts fails
 pub failed_by : (parts : Parts) (addresses : List (List ℕ)) (prefix : List ℕ) (attempts : ℕ) (why : OpenFault)

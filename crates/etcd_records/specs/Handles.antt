@@ -1,6 +1,6 @@
 -- What contracts see of records in etcd, and what is so of them; this project's profile.
 use Rattle.std.specs.Prelude.{◌≡◌, ◌⊎◌, ◌+◌, ◌<◌, ◌≤◌, ℕ, false, true, List, length, slice_get, Option, Some, MatchOption, Ok, refl, ⊤, Bool, [], ◌∷◌, ◌++◌, None}
-use Rattle.std.specs.Coded.{Coded, code_by, coded×, coded_bool, coded_list, coded_ℕ}
+use Rattle.std.specs.Coded.{Coded, code_by, coded×, coded_bool, coded_list, coded_option, coded_ℕ}
 use Rattle.std.specs.List.{Contains}
 use Rattle.base64.specs.Engines.{standard}
 use Rattle.base64.specs.GeneralPurpose.{decode_of}
@@ -10,13 +10,15 @@ use Rattle.kept_records.specs.contracts.record.Record as kept_record
 use Rattle.kept_records.specs.declared.record.Record.{Record}
 use Rattle.etcd_records.specs.declared.exchange.Exchange.{Exchange}
 use Rattle.etcd_records.specs.declared.handle.Last.{Last}
+use Rattle.etcd_records.specs.contracts.headers.Header as header
+use Rattle.etcd_records.specs.declared.headers.Header.{Header}
 use Rattle.etcd_records.specs.Asking.{Asks}
 use Rattle.etcd_records.specs.Keys.{encoded_key, value_of}
 use Rattle.etcd_records.specs.Replies.{found_in, held_in, is_created, reply_in}
 use Rattle.etcd_records.specs.Requests.{range_path, range_request, txn_path, txn_request}
 
 -- a gateway, how often a request is posted until a server replies, the prefix of the keys, the records that are known
--- to be stored, how many bytes all may have, and whether the last one was read
+-- to be stored, how many bytes all may have, whether the last one was read, and the header of the last reply that counts
 pub record Handle (G : Type 0) : Type 0 where
   pub gateway : G
   pub attempts : ℕ
@@ -24,14 +26,15 @@ pub record Handle (G : Type 0) : Type 0 where
   pub kept : List Record
   pub limit : ℕ
   pub read : Bool
+  pub seen : Option Header
 
 abbrev pub handle_code : {G : Type 0} → Coded G → Coded (Handle G)
 handle_code {G} gateway =
-    code_by (G × (ℕ × (List ℕ × (List Record × (ℕ × Bool)))))
+    code_by (G × (ℕ × (List ℕ × (List Record × (ℕ × (Bool × Option Header))))))
     (coded× gateway (coded× coded_ℕ (coded× (coded_list coded_ℕ)
-    (coded× (coded_list kept_record.the_row.coded) (coded× coded_ℕ coded_bool)))))
-    (λ handle. (handle.gateway, (handle.attempts, (handle.prefix, (handle.kept, (handle.limit, handle.read))))))
-    (λ p. record { gateway = p.0; attempts = p.1.0; prefix = p.1.1.0; kept = p.1.1.1.0; limit = p.1.1.1.1.0; read = p.1.1.1.1.1 })
+    (coded× (coded_list kept_record.the_row.coded) (coded× coded_ℕ (coded× coded_bool (coded_option header.the_row.coded)))))))
+    (λ handle. (handle.gateway, (handle.attempts, (handle.prefix, (handle.kept, (handle.limit, (handle.read, handle.seen)))))))
+    (λ p. record { gateway = p.0; attempts = p.1.0; prefix = p.1.1.0; kept = p.1.1.1.0; limit = p.1.1.1.1.0; read = p.1.1.1.1.1.0; seen = p.1.1.1.1.1.1 })
     (λ _. refl)
 
 -- the known records: those before the last one, and the last one
@@ -88,7 +91,8 @@ pub record IsHandle (exchanges : List Exchange) (prefix : List ℕ) (count : ℕ
   pub shown : AreShown exchanges prefix (known_in marks last)
   pub before : WasLeft limit marks last
 
--- nothing but the gateway, the known records and whether the last one was read differs
+-- nothing but the gateway, the known records, whether the last one was read, and the header of the last reply that counts
+-- differs
 pub record IsSameBut {G : Type 0} (old new : Handle G) : Type 0 where
   pub attempts : new.attempts ≡ old.attempts
   pub prefix : new.prefix ≡ old.prefix

@@ -3,6 +3,7 @@ pub mod Asking
 pub mod Exchanges
 pub mod Gateways
 pub mod Handles
+pub mod Headers
 pub mod Keys
 pub mod Laws
 pub mod Openings

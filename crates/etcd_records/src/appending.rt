@@ -9,12 +9,12 @@ ghost use Rattle.kept_records.specs.declared.record.Kind.TheVariants.{Profile};
 ghost use Rattle.kept_records.specs.Keeping.{Appends, Compacts, Forgets, HasRoom, Learns, Numbers, record_of};
 ghost use Rattle.etcd_records.specs.declared.exchange.Exchange.{Exchange};
 ghost use Rattle.etcd_records.specs.Appending.{AppendsBy, NextBy};
-ghost use Rattle.etcd_records.specs.Asking.{IsHeard, heard_of};
+ghost use Rattle.etcd_records.specs.Asking.{IsHeard, heard_of, seen_by};
 ghost use Rattle.etcd_records.specs.Handles.{AreShown, IsSameBut, IsShown};
 ghost use Rattle.etcd_records.specs.Keys.{encoded_key, value_of, encoded_value};
 ghost use Rattle.etcd_records.specs.Requests.{range_request, txn_request};
 
-use crate::asking::{Asked, ask};
+use crate::asking::{Asked, ask, seen_by};
 use crate::gateway::Gateway;
 use crate::handle::{EtcdRecords, Last, Mark, less, pass};
 use crate::keys::{encoded_key, encoded_value};
@@ -91,11 +91,21 @@ impl<G: Gateway> EtcdRecords<G> {
     // Posts a request until etcd replies.
     fn ask(&mut self, alloc: Global, path: &str, body: &[u8]) -> Asked
         ensures heard { (done : List Exchange) × (G.exchanges self.new.gateway ≡ G.exchanges self.old.gateway ++ done)
-            × IsHeard self.old.attempts path.now body.now done (heard_of result) }
+            × IsHeard self.old.attempts self.old.seen path.now body.now done (heard_of result) }
+        ensures seen { self.new.seen ≡ seen_by self.old.seen (heard_of result) }
         ensures kept { self.new.kept ≡ self.old.kept }
         ensures same { IsSameBut self.old self.new }
     {
-        ask(&mut self.gateway, alloc, self.attempts, path, body)
+        let asked = ask(
+            &mut self.gateway,
+            alloc,
+            self.attempts,
+            self.seen,
+            path,
+            body,
+        );
+        self.seen = seen_by(self.seen, &asked);
+        asked
     }
 
     // rule: Known records in etcd
@@ -107,6 +117,7 @@ impl<G: Gateway> EtcdRecords<G> {
         ensures kept { self.new.kept ≡ self.old.kept ++ record_of kind bytes.now ∷ [] }
         ensures gateway { self.new.gateway ≡ self.old.gateway }
         ensures read { self.new.read ≡ was_read }
+        ensures seen { self.new.seen ≡ self.old.seen }
         ensures same { IsSameBut self.old self.new }
     {
         let left = self.left;
@@ -124,7 +135,7 @@ impl<G: Gateway> EtcdRecords<G> {
     // Reads the next record, which is not known yet.
     fn read_next(&mut self, alloc: Global) -> Result<Option<Record>, ReadFault>
         ensures by { (done : List Exchange) × (G.exchanges self.new.gateway ≡ G.exchanges self.old.gateway ++ done)
-            × NextBy self.old.attempts self.old.prefix self.old.kept done result }
+            × NextBy self.old.attempts self.old.seen self.new.seen self.old.prefix self.old.kept done result }
         ensures shown { IfOk result (λ found. IfSome found
             (IsShown (G.exchanges self.new.gateway) self.new.prefix (length self.new.kept + 1))) }
         ensures room { IfOk result (λ found. IfSome found (λ _. length self.new.kept < 65536)) }
@@ -163,7 +174,7 @@ impl<G: Gateway> Records for EtcdRecords<G> {
     fn append(&mut self, alloc: Global, kind: Kind, bytes: &[u8]) -> Result<(), AppendFault>
         ensures appends { Appends (record_of kind bytes.now) result self.old.kept self.new.kept }
         ensures by { (done : List Exchange) × (G.exchanges self.new.gateway ≡ G.exchanges self.old.gateway ++ done)
-            × AppendsBy self.old.attempts self.old.prefix self.old.limit self.old.kept
+            × AppendsBy self.old.attempts self.old.seen self.new.seen self.old.prefix self.old.limit self.old.kept
             (record_of kind bytes.now) done result }
         ensures same { IsSameBut self.old self.new }
     {
@@ -184,7 +195,7 @@ impl<G: Gateway> Records for EtcdRecords<G> {
         ensures learns { Learns result self.old.kept self.new.kept }
         ensures read { IfOk result (λ found. IfSome found (λ _. self.new.read ≡ true)) }
         ensures by { (done : List Exchange) × (G.exchanges self.new.gateway ≡ G.exchanges self.old.gateway ++ done)
-            × NextBy self.old.attempts self.old.prefix self.old.kept done result }
+            × NextBy self.old.attempts self.old.seen self.new.seen self.old.prefix self.old.kept done result }
         ensures same { IsSameBut self.old self.new }
     {
         match self.read_next(alloc)? {
@@ -200,6 +211,7 @@ impl<G: Gateway> Records for EtcdRecords<G> {
         ensures forgets { Forgets result self.old.kept self.new.kept }
         ensures read { self.old.read ≡ true → IsTrue result }
         ensures gateway { self.new.gateway ≡ self.old.gateway }
+        ensures seen { self.new.seen ≡ self.old.seen }
         ensures same { IsSameBut self.old self.new }
     {
         let Some(last) = self.last.take() else {

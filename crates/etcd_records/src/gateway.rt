@@ -43,4 +43,8 @@ pub trait Gateway {
     /// Which server is the gateway's choice; after a failure it should be another one at the next call.
     fn post(&mut self, alloc: Global, path: &str, body: &[u8]) -> Result<Response, GatewayFault>
         ensures { exchanges self.new ≡ exchanges self.old ++ exchange_of path.now body.now result ∷ [] };
+
+    /// Has another server be the next one, after a reply that doesn't count.
+    fn go_on(&mut self)
+        ensures { exchanges self.new ≡ exchanges self.old };
 }

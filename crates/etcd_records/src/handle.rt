@@ -5,6 +5,7 @@ ghost use Rattle.etcd_records.specs.Handles.{known_in};
 ghost use Rattle.kept_records.specs.Keeping.{record_of};
 
 use crate::gateway::Gateway;
+use crate::headers::Header;
 use kept_records::Kind;
 use std::marker::Model;
 use streams::Trace;
@@ -81,8 +82,8 @@ pub(crate) fn less(left: Option<u64>, bytes: usize) -> Option<u64>
 /// Records in etcd, numbered from 1, which other servers read and append too.
 ///
 /// Contracts see the gateway to etcd's servers, how often a request is posted until one replies, the prefix of the
-/// keys, the records that are known to be stored, and how many bytes all may have. It keeps no records, only their
-/// number and how many bytes are left.
+/// keys, the records that are known to be stored, how many bytes all may have, and the header of the last reply that
+/// counts. It keeps no records, only their number and how many bytes are left.
 pub struct EtcdRecords<G: Gateway> {
     pub(crate) gateway: G,
     pub(crate) attempts: u32,
@@ -93,6 +94,8 @@ pub struct EtcdRecords<G: Gateway> {
     // the known records before the last one
     pub(crate) marks: Trace<Mark>,
     pub(crate) last: Option<Last>,
+    // the header of the last reply that counts
+    pub(crate) seen: Option<Header>,
 }
 
 // Written out, so that no caller proves again how each part is dropped.
@@ -107,6 +110,7 @@ impl<G: Gateway + Drop> Drop for EtcdRecords<G> {
             limit: _,
             marks: _,
             last: _,
+            seen: _,
         } = self;
     }
 }
@@ -125,6 +129,7 @@ impl<G: Gateway> Model for EtcdRecords<G> {
       kept = known_in h.marks h.last;
       limit = h.limit;
       read = is_read h.last;
+      seen = h.seen;
     } };
 
     ghost invariant = { λ h. IsHandle (G.exchanges h.gateway) h.prefix h.count h.left h.limit h.marks h.last };

@@ -22,6 +22,7 @@ mod exchange;
 mod gateway;
 mod gateways;
 mod handle;
+mod headers;
 mod keys;
 pub mod laws;
 mod memory;

@@ -238,4 +238,6 @@ impl Gateway for MemoryGateway<'_> {
         self.exchanges.push(&Exchange::of(path, body, &came));
         came
     }
+
+    fn go_on(&mut self) {}
 }

@@ -1,6 +1,6 @@
 // Records of a history in etcd that are read whole.
 
-ghost use Rattle.std.specs.Prelude.{◌≡◌, [], IfErr, IfOk};
+ghost use Rattle.std.specs.Prelude.{◌≡◌, [], IfErr, IfOk, None};
 ghost use Rattle.etcd_records.specs.Handles.{IsSameBut};
 ghost use Rattle.etcd_records.specs.Openings.{AreAll, GoesOn, OpenFails, open_fault_of};
 
@@ -28,6 +28,7 @@ impl<G: Gateway> EtcdRecords<G> {
         ensures prefix { result.prefix ≡ prefix }
         ensures limit { result.limit ≡ limit }
         ensures none { result.kept ≡ [] }
+        ensures unseen { result.seen ≡ None }
     {
         EtcdRecords {
             gateway,
@@ -38,6 +39,7 @@ impl<G: Gateway> EtcdRecords<G> {
             limit,
             marks: Trace::new(),
             last: None,
+            seen: None,
         }
     }
 

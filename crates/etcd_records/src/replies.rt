@@ -3,12 +3,16 @@
 ghost use Rattle.std.specs.Prelude.{◌≡◌, IfOk, option_map};
 ghost use Rattle.serde_json.specs.View.{view};
 ghost use Rattle.etcd_records.specs.Exchanges.{outcome_of};
-ghost use Rattle.etcd_records.specs.Replies.{Says, found_in, held_in, is_created, json_of, rejects, reply_of, pair_value};
+ghost use Rattle.etcd_records.specs.Replies.{Says, SaysBy, found_in, held_in, is_created, json_of, rejects, reply_of, pair_value};
 
 use crate::gateway::{GatewayFault, Response};
+use crate::headers::{Header, header_of, trouble_in};
 use kept_records::{Cause, Unreached};
 use serde_json::{Category, Value};
 use std::alloc::{AllocError, Global};
+
+// Why there is no reply, if nobody replies.
+const NO_REPLY: Cause = Cause::Unreachable(Unreached::NoReply);
 
 /// What one attempt at a request says.
 #[derive(Drop)]
@@ -39,7 +43,7 @@ fn read_reply(alloc: Global, body: &[u8]) -> Result<Option<Value>, AllocError>
     ensures { IfOk result (λ read. option_map view read ≡ reply_of body.now) }
 {
     match parse(alloc, body)? {
-        Some(json) if json.get("header").is_some() => Ok(Some(json)),
+        Some(json) if header_of(&json).is_some() => Ok(Some(json)),
         _ => Ok(None),
     }
 }
@@ -52,36 +56,50 @@ fn rejects(status: u16) -> bool
     status == 400 || status == 413
 }
 
-fn hear_response(alloc: Global, response: &Response) -> Result<Said, AllocError>
-    ensures { IfOk result (Says (outcome_of (Ok response.now))) }
+// rule: Replies of one cluster
+// What a reply says after one with such a header, and what it says if it is none of etcd.
+fn judge(seen: Option<Header>, read: Option<Value>) -> Said
+    ensures { SaysBy seen (option_map view read) result }
+{
+    let Some(reply) = read else {
+        return Said::Missed(Cause::Unreadable, true);
+    };
+    match trouble_in(seen, &reply) {
+        Some(why) => Said::Missed(Cause::Unreachable(why), true),
+        None => Said::Reply(reply),
+    }
+}
+
+fn hear_response(
+    alloc: Global,
+    seen: Option<Header>,
+    response: &Response,
+) -> Result<Said, AllocError>
+    ensures { IfOk result (Says seen (outcome_of (Ok response.now))) }
 {
     if response.status == 200 {
-        return match read_reply(alloc, response.body.as_slice())? {
-            Some(reply) => Ok(Said::Reply(reply)),
-            None => Ok(Said::Missed(Cause::Unreadable, true)),
-        };
+        let read = read_reply(alloc, response.body.as_slice())?;
+        return Ok(judge(seen, read));
     }
     if rejects(response.status) {
         return Ok(Said::Missed(Cause::TooLarge, false));
     }
-    Ok(Said::Missed(Cause::Unreachable(Unreached::NoReply), true))
+    Ok(Said::Missed(NO_REPLY, true))
 }
 
 // rule: Attempt at a request
-/// Returns what an attempt says.
-pub(crate) fn hear(alloc: Global, came: &Result<Response, GatewayFault>) -> Result<Said, AllocError>
-    ensures { IfOk result (Says (outcome_of came.now)) }
+/// Returns what an attempt says after a reply with such a header.
+pub(crate) fn hear(
+    alloc: Global,
+    seen: Option<Header>,
+    came: &Result<Response, GatewayFault>,
+) -> Result<Said, AllocError>
+    ensures { IfOk result (Says seen (outcome_of came.now)) }
 {
     match came {
-        Ok(response) => hear_response(alloc, response),
-        Err(GatewayFault::Unsent) => Ok(Said::Missed(
-            Cause::Unreachable(Unreached::NoReply),
-            false,
-        )),
-        Err(GatewayFault::Unanswered) => Ok(Said::Missed(
-            Cause::Unreachable(Unreached::NoReply),
-            true,
-        )),
+        Ok(response) => hear_response(alloc, seen, response),
+        Err(GatewayFault::Unsent) => Ok(Said::Missed(NO_REPLY, false)),
+        Err(GatewayFault::Unanswered) => Ok(Said::Missed(NO_REPLY, true)),
         Err(GatewayFault::Memory) => Ok(Said::Missed(Cause::Memory, true)),
     }
 }

@@ -37,6 +37,13 @@ done503 unsent | | 1 p:A=unknown n=p:A
 lost 400 | | 1 p:A=unknown n=p:A
 garbled | | 1 p:A=ok
 empty garbled | | 1 p:A=unknown n=none
+torn | | 1 p:A=ok n=none
+foreign | | 1 p:A=ok n=none
+older | | 1 p:A=ok n=none
+foreign older | | 1 p:A=unknown n=none p:A=ok
+. older foreign | | 1 p:A=ok n=failed n=none
+. newer | | 1 p:A=ok n=none n=failed s:B=unknown
+foreign other=c2NyaXB0Clg= | | 1 p:A=taken n=s:X
 other=c2NyaXB0Clg= | | 1 p:A=taken n=s:X n=none p:A=ok
 other=cHJvZmlsZQpB | | 1 p:A=taken n=p:A n=none
 dropped other=c2NyaXB0Clg= | | 1 p:A=taken n=s:X
@@ -54,6 +61,15 @@ lost lost | | 1 p:A=unknown 2 s:B=taken n=p:A s:B=ok 1 n=p:A n=s:B n=none
 dropped dropped | | 1 p:A=unknown 2 s:B=ok 1 n=s:B p:A=ok 2 n=p:A
 dropped lost | unsent unsent | 1 p:A=unknown 2 s:B=failed n=p:A 1 n=p:A n=none
 | lost | 1 p:A=ok 2 p:A=ok 1 n=none s:B=ok 2 n=s:B";
+
+// Replies in which nothing is found: without a revision, of another cluster, of an older state and of a newer one.
+const TORN: &str = "{\"header\":{\"cluster_id\":\"1\",\"revision\":\"+3\"}}";
+
+const FOREIGN: &str = "{\"header\":{\"cluster_id\":\"7\",\"revision\":\"9\"}}";
+
+const OLDER: &str = "{\"header\":{\"cluster_id\":\"1\",\"revision\":\"1\"}}";
+
+const NEWER: &str = "{\"header\":{\"cluster_id\":\"1\",\"revision\":\"3\"}}";
 
 fn responding(alloc: Global, status: u16, body: &str) -> Option<EtcdTurn> {
     let body = Text::copy_of(alloc, body).ok()?;
@@ -79,6 +95,10 @@ fn turn_of(alloc: Global, word: &str) -> Option<EtcdTurn> {
         "unsent" => Some(EtcdTurn::Unsent),
         "garbled" => responding(alloc, 200, "<html>"),
         "empty" => responding(alloc, 200, "{}"),
+        "torn" => responding(alloc, 200, TORN),
+        "foreign" => responding(alloc, 200, FOREIGN),
+        "older" => responding(alloc, 200, OLDER),
+        "newer" => responding(alloc, 200, NEWER),
         status => responding(alloc, status.parse().ok()?, ""),
     }
 }
@@ -163,6 +183,7 @@ fn is_so(alloc: Global, row: &str) -> Option<bool> {
 // rule: Attempts of a request
 // rule: Attempt at a request
 // rule: Rejected request
+// rule: Replies of one cluster
 // rule: Known records in etcd
 // rule: One history for all servers
 #[test]
@@ -233,6 +254,8 @@ impl Gateway for Script<'_> {
         self.exchanges.push(&Exchange::of(path, body, &came));
         came
     }
+
+    fn go_on(&mut self) {}
 }
 
 // Whether records make these calls, if there are any.

@@ -158,6 +158,15 @@ impl<'a, R: Net<Listener = TcpListener, Stream = TcpStream> + Clock> TcpGateway<
 impl<'a, R: Net<Listener = TcpListener, Stream = TcpStream> + Clock> Gateway for TcpGateway<'a, R> {
     ghost exchanges = { λ gateway. gateway.exchanges };
 
+    /// Has the next address be posted to next, and after the last one the first one.
+    fn go_on(&mut self)
+        ensures place { self.new.place ≡ next_place (length self.old.addresses) self.old.place }
+        ensures addresses { self.new.addresses ≡ self.old.addresses }
+        ensures exchanges { self.new.exchanges ≡ self.old.exchanges }
+    {
+        self.place = next_place(self.addresses.len(), self.place);
+    }
+
     /// Posts to the address whose turn it is. After anything but a reply with the status 200 it is the next one's, and after
     /// the last one the first one's again.
     fn post(&mut self, alloc: Global, path: &str, body: &[u8]) -> Result<Response, GatewayFault>

@@ -11,7 +11,7 @@ returns-in-Ok-None-clause-all g c =
 pub returns-in-Err-clause-err : goal.returns-in-Err-clause-err
 returns-in-Err-clause-err g c =
     subst (OpenFails c.args.self.now.attempts c.args.self.now.prefix) (sym c.open_fault_of.ensures)
-    (fails_by c.args.self.now c.loop-number.self c.in-Err.fault c.loop-number.self.kept c.in-Err.ensures.by.0
+    (fails_by c.args.self.now c.loop-number.self _ _ c.in-Err.fault c.loop-number.self.kept c.in-Err.ensures.by.0
     c.loop-number.invariant.same c.in-Err.ensures.by.2)
 
 pub returns-then-is_err-clause-err : goal.returns-then-is_err-clause-err
