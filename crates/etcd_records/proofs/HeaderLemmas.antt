@@ -13,7 +13,7 @@ use Rattle.etcd_records.specs.declared.exchange.Outcome.{Outcome}
 use Rattle.etcd_records.specs.declared.exchange.Outcome.TheVariants as outcome
 use Rattle.etcd_records.specs.declared.headers.Header.{Header}
 use Rattle.etcd_records.specs.Asking.{Heard, replied, unreplied, no_memory, IsHeard, seen_by}
-use Rattle.etcd_records.specs.Headers.{header_of, number_of, trouble_in, trouble_of}
+use Rattle.etcd_records.specs.Headers.{header_of, header_with, number_of, trouble_in, trouble_of}
 use Rattle.etcd_records.specs.Laws.{AreHeard, RepliesNeverGoBack, seen_last}
 use Rattle.etcd_records.specs.Replies.{counted, counted_in, json_of, reply_in, reply_of, with_header}
 
@@ -100,3 +100,10 @@ never_back first (replied reply is_doubtful ∷ later) heard =
     after a b c one two = omega arith
 never_back first (unreplied why is_doubtful ∷ later) heard = never_back first later heard.1
 never_back first (no_memory ∷ later) heard = never_back first later heard.1
+
+-- a header whose numbers were read
+pub header_both : (cluster revision : Option ℕ) (c r : ℕ) → Some c ≡ cluster → Some r ≡ revision
+    → Some (record { cluster = c; revision = r }) ≡ header_with cluster revision
+header_both (Some one) (Some other) c r is also = cc
+header_both (Some one) None c r is also = cc
+header_both None revision c r is also = cc
