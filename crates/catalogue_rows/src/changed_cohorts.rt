@@ -2,14 +2,15 @@
 
 use crate::out_of_memory_tests::are_right;
 use buckets::{Span, cut_off, cuts_nobody_off, has_target, moves, parts, width_of};
-use catalogue::{Catalogue, Cohort};
+use catalogue::Cohort;
 use fixtures::{DEMO, catalogue_of_script};
 use std::alloc::Global;
 
 // The cohorts of the app after some edits.
 fn cohorts_after(alloc: Global, edits: &str) -> Option<&'static [Cohort]> {
-    let catalogue: &'static Catalogue = catalogue_of_script(alloc, DEMO, edits)?;
-    Some(catalogue.cohorts(0))
+    let catalogue = catalogue_of_script(alloc, DEMO, edits)?;
+    let app = catalogue.apps().first()?;
+    Some(app.cohorts.as_slice())
 }
 
 fn are(spans: &[Span], wanted: &[(u64, u64)]) -> bool {
@@ -23,6 +24,7 @@ struct Row {
     after: &'static str,
     parts: &'static [(u64, u64)],
     cut_off: &'static [(u64, u64)],
+    width: u128,
     moved: &'static [(u64, u64)],
     cuts_nobody_off: bool,
 }
@@ -35,6 +37,7 @@ const ROWS: [Row; 6] = [
             { do = "set_share", app = "demo", cohort = "stable", share = 10 },"#,
         parts: &[(0, 10), (10, 1000)],
         cut_off: &[(10, 1000)],
+        width: 990,
         moved: &[(10, 1000)],
         cuts_nobody_off: false,
     },
@@ -44,6 +47,7 @@ const ROWS: [Row; 6] = [
         after: r#"{ do = "set_share", app = "demo", cohort = "stable", share = 10 },"#,
         parts: &[(0, 10), (10, 1000)],
         cut_off: &[],
+        width: 0,
         moved: &[(10, 1000)],
         cuts_nobody_off: true,
     },
@@ -53,6 +57,7 @@ const ROWS: [Row; 6] = [
         after: r#"{ do = "set_share", app = "demo", cohort = "stable", share = 500 },"#,
         parts: &[(0, 100), (100, 500), (500, 1000)],
         cut_off: &[],
+        width: 0,
         moved: &[(100, 500)],
         cuts_nobody_off: true,
     },
@@ -63,6 +68,7 @@ const ROWS: [Row; 6] = [
             { do = "set_target", app = "demo", cohort = "stable", held = "3.0" },"#,
         parts: &[(0, 500), (500, 1000)],
         cut_off: &[(0, 500)],
+        width: 500,
         moved: &[(0, 500)],
         cuts_nobody_off: false,
     },
@@ -73,6 +79,7 @@ const ROWS: [Row; 6] = [
             { do = "set_open", app = "demo", cohort = "beta", on = true },"#,
         parts: &[(0, 1000)],
         cut_off: &[],
+        width: 0,
         moved: &[],
         cuts_nobody_off: false,
     },
@@ -82,6 +89,7 @@ const ROWS: [Row; 6] = [
         after: r#"{ do = "set_open", app = "demo", cohort = "beta", on = true },"#,
         parts: &[(0, 1000)],
         cut_off: &[],
+        width: 0,
         moved: &[],
         cuts_nobody_off: true,
     },
@@ -93,16 +101,11 @@ fn has_changed(alloc: Global, row: &Row) -> Option<bool> {
     let after = cohorts_after(alloc, row.after)?;
     let (one, other) = (before.first()?, after.first()?);
     let cut_off = cut_off(alloc, one, other).ok()?;
-    let count = row
-        .cut_off
-        .iter()
-        .map(|(start, end)| (end - start) as u128)
-        .sum();
     Some(
         are(&parts(alloc, one, other).ok()?, row.parts)
             && are(&cut_off, row.cut_off)
             && are(&moves(alloc, one, other).ok()?, row.moved)
-            && width_of(&cut_off) == count
+            && width_of(&cut_off) == row.width
             && cuts_nobody_off(before, after) == row.cuts_nobody_off,
     )
 }
