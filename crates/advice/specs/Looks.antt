@@ -29,6 +29,8 @@ seen_string seen.Special = codes "it is no regular file"
 seen_string seen.LongName = codes "its name is too long"
 seen_string seen.Large = codes "it has more than 268435456 bytes"
 seen_string seen.Listening = codes "somebody listens there: is it the operator's listener of an omaha server?"
+seen_string seen.Unanswering =
+    codes "somebody listens there, but no whole reply came: it may have taken effect, omaha status shows"
 seen_string seen.Free = codes "the address is free now: try again"
 seen_string seen.Readable = codes "it is a file that can be read; a script has at most 262144 bytes"
 seen_string seen.Writable = codes "it can be written now: try again"
@@ -57,6 +59,7 @@ IsAddressAdvice sights aim address is_twice said = IsAddressLook sights aim addr
 -- what a second look finds if nothing is wrong
 abbrev pub wanted_of : Aim → Seen
 wanted_of aim.Connect = seen.Listening
+wanted_of aim.Post = seen.Unanswering
 wanted_of aim.Bind = seen.Free
 wanted_of aim.Read = seen.Readable
 wanted_of aim.Append = seen.Writable

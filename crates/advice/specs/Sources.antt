@@ -50,6 +50,9 @@ server_of other = []
 -- what a command does at an address
 abbrev pub aim_of : Command → Aim
 aim_of (command.Serve asked) = aim.Bind
+aim_of (command.Publish asked) = if asked.check then aim.Connect else aim.Post
+aim_of (command.Raise asked) = aim.Post
+aim_of (command.Stop asked) = aim.Post
 aim_of other = aim.Connect
 
 -- the path of a command's folder of packages that are compared

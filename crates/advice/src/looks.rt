@@ -21,6 +21,8 @@ use streams::Shown;
 pub enum Aim {
     /// To connect to an address.
     Connect,
+    /// To post what changes something to an address.
+    Post,
     /// To listen at an address.
     Bind,
     /// To read a file.
@@ -62,6 +64,8 @@ pub enum Seen {
     Large,
     /// Somebody listens at the address.
     Listening,
+    /// The same, of one who may have done what was asked for.
+    Unanswering,
     /// The address is free.
     Free,
     /// The file can be opened.
@@ -81,6 +85,7 @@ impl Aim {
     {
         match self {
             Aim::Connect => Seen::Listening,
+            Aim::Post => Seen::Unanswering,
             Aim::Bind => Seen::Free,
             Aim::Read => Seen::Readable,
             Aim::Append => Seen::Writable,
@@ -110,6 +115,8 @@ impl Seen {
             Seen::Large => "it has more than 268435456 bytes",
             Seen::Listening =>
                 "somebody listens there: is it the operator's listener of an omaha server?",
+            Seen::Unanswering =>
+                "somebody listens there, but no whole reply came: it may have taken effect, omaha status shows",
             Seen::Free => "the address is free now: try again",
             Seen::Readable => "it is a file that can be read; a script has at most 262144 bytes",
             Seen::Writable => "it can be written now: try again",
@@ -189,6 +196,14 @@ fn connect<R: Net<Listener = TcpListener, Stream = TcpStream>>(rt: &R, address: 
     match address.strip_prefix("unix:") {
         Some(path) => connect_path(rt, path),
         None => connect_host(rt, address),
+    }
+}
+
+// What is seen of an address to which something was posted.
+fn post<R: Net<Listener = TcpListener, Stream = TcpStream>>(rt: &R, address: &str) -> Seen {
+    match connect(rt, address) {
+        Seen::Listening => Seen::Unanswering,
+        seen => seen,
     }
 }
 
@@ -277,6 +292,7 @@ impl<R: Net<Listener = TcpListener, Stream = TcpStream> + Files> Looks for R {
     fn look(&self, aim: Aim, at: &str) -> Seen {
         match aim {
             Aim::Connect => connect(self, at),
+            Aim::Post => post(self, at),
             Aim::Bind => bind(self, at),
             Aim::Read => read(self, at),
             Aim::Append => append(self, at),

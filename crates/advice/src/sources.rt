@@ -85,6 +85,9 @@ pub(crate) fn aim_of(command: &Command) -> Aim
 {
     match command {
         Command::Serve(_) => Aim::Bind,
+        Command::Publish(asked) if !asked.check => Aim::Post,
+        Command::Raise(_) => Aim::Post,
+        Command::Stop(_) => Aim::Post,
         _ => Aim::Connect,
     }
 }
