@@ -25,8 +25,9 @@ The public calls that may run out of memory are shown so:
 - by `check`, `certify` and `verify`: `read_prices`, `write_prices`, `check_parallel` and `Graph::of_track`;
 - by `walk`: `Client::walk` with `write_request` and `read_reply`, and by it, `publish`, `raise`, `dump` and `status` `post_to`;
 - by `history`: `EditionBuilder` with `build`; by `review`, `graph`, `describe`, `script` and `explain` what each prints;
-- by the tests: `Catalogue::apply`, `Catalogue::copy`, `Batch::copy`, `tables`, `build`, `build_for`, `plan`, `open_books`, `close`,
-  `open`, `Press::publish`, `serve` of `http_sessions`, and `Client::walk` over devices in memory.
+- by the tests: `Catalogue::apply`, `Catalogue::copy`, `Batch::copy`, `parts`, `cut_off` and `moves` of `buckets`, `tables`,
+  `build`, `build_for`, `plan`, `open_books`, `close`, `open`, `Press::publish`, `serve` of `http_sessions`, and `Client::walk`
+  over devices in memory.
 
 It needs a C compiler, the program, and the tests whose names end in `_without_memory`, which `make allocations` builds.
 """
