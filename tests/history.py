@@ -362,7 +362,7 @@ def mishaps(program, count):
             check(f"mishaps: {name}: a start", (0, ""), (status, error))
             listed = run(program, folder, "history", "history.db")[1].splitlines()
             check(f"mishaps: {name}: records", records, len(listed))
-    print(f"mishaps: {count}, {refused} refused with a line, {time.monotonic() - began:.0f} s")
+    print(f"mishaps: {count}, {refused} rejected with a line, {time.monotonic() - began:.0f} s")
 
 
 def sqlite3(program):
